@@ -1,0 +1,9 @@
+pub mod Sums
+pub mod Bits
+pub mod Words
+pub mod Places
+pub mod Majority
+pub mod Numbers
+pub mod Mending
+pub mod Steps
+pub mod Compared

@@ -1,0 +1,2 @@
+-- Lemmas on the bytes held and those below.
+pub mod Layer

@@ -1,0 +1,2 @@
+-- What the fetch layer holds.
+pub mod Held

@@ -1,0 +1,3 @@
+mod Congruence
+mod Inverse
+mod Tables

@@ -1,0 +1,5 @@
+pub mod Bounds
+pub mod AnyProduct
+pub mod Ends
+pub mod Laws
+pub mod Worked

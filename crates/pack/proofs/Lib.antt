@@ -1,0 +1,4 @@
+pub mod Runs
+pub mod Cursors
+pub mod Fills
+pub mod Laws

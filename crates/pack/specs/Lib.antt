@@ -1,0 +1,4 @@
+pub mod Bits
+pub mod Packing
+pub mod Places
+pub mod Trips

@@ -1,0 +1,6 @@
+pub mod Limits
+pub mod Sums
+pub mod Checks
+pub mod Rules
+pub mod Sizes
+pub mod Made

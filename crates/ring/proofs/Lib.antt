@@ -1,0 +1,9 @@
+pub mod Listing
+pub mod Algebra
+pub mod Runs
+pub mod Turns
+pub mod Congruences
+pub mod CyclicLaws
+pub mod FromLaws
+pub mod Bridge
+pub mod Worked

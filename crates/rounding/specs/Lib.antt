@@ -1,0 +1,4 @@
+pub mod Rounding
+pub mod RoundingLaws
+pub mod Symbols
+pub mod Worked

@@ -1,0 +1,5 @@
+-- What expanding a seed makes of the book's list.
+pub mod Values
+pub mod Positions
+pub mod Expanded
+pub mod Facts

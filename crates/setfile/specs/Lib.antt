@@ -1,0 +1,5 @@
+pub mod Scan
+pub mod Values
+pub mod Meaning
+pub mod Shown
+pub mod Proposed

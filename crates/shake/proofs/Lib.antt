@@ -1,0 +1,4 @@
+mod Blocks
+pub mod Laws
+mod Output
+mod Xor

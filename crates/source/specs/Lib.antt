@@ -1,0 +1,2 @@
+-- What a byte source's calls mean.
+pub mod Draws
