@@ -2,7 +2,8 @@
 """Compares the kit's calls with plain C in one run: first that both write the same, then how long each call takes, by turns.
 
 Usage: bench/kit.py [turns]    after `rt check kitbench`; run it on a quiet machine. A C compiler is needed (gcc).
-bench/scheme.c is written from the rules in docs/, not from this repository's code, so equal checksums also test the one against the other.
+bench/scheme.c is the same scheme in C with a SHAKE256 of its own, so equal checksums also test the one against the other. It is not blind: the
+order of steps in seal, open and gauge, and the methods of product and packer, were known to its author.
 """
 import pathlib
 import subprocess

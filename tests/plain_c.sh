@@ -1,6 +1,6 @@
 #!/bin/sh
-# Compares the kit's calls with bench/scheme.c, plain C that was written from docs/ alone: keys, parcels, secrets, raw bits and noise, by
-# checksums over many seeds, for small, coded, noisy and large sets.
+# Compares the kit's calls with bench/scheme.c, the same scheme in plain C with a SHAKE256 of its own: keys, parcels, secrets, raw bits and
+# noise, by checksums over many seeds, for small, coded, noisy and large sets.
 # Usage: plain_c.sh PROGRAM
 set -u
 if [ $# -ne 1 ] || [ ! -x "$1" ]; then
