@@ -1,7 +1,8 @@
 // Refusals by their numbers.
 ghost use mathlib.Core.Path.{_≡_};
-ghost use mathlib.Core.List.{[], _∷_};
-ghost use lib.ListN.{take};
+ghost use mathlib.Core.List.{_++_};
+ghost use Prim.Native.Nat.{_-_};
+ghost use lib.ListN.{length, replicate};
 ghost use Rattle.calls.specs.Numbers.{buffer-number, input-number, refusal-numbers};
 ghost use Rattle.wire.specs.Faults.{fault-numbers};
 use crate::refusal::Buffer;
@@ -9,7 +10,7 @@ use crate::refusal::Input;
 use crate::refusal::Refusal;
 use wire::WireFault;
 
-/// The number of a refusal and its values, as many as `count`.
+/// The number of a refusal and its values, as many as `count`, and then zeros.
 #[derive(Clone, Copy)]
 pub struct RefusalNumbers {
     pub count: usize,
@@ -43,7 +44,8 @@ impl Input {
 }
 
 fn fault_numbers(fault: WireFault) -> RefusalNumbers
-    ensures { λ r. ⌜ take (r .count) (r .values) ≡ fault-numbers fault ⌝ }
+    ensures count { λ r. ⌜ r .count ≡ length (fault-numbers fault) ⌝ }
+    ensures values { λ r. ⌜ r .values ≡ fault-numbers fault ++ replicate (4 - length (fault-numbers fault)) 0 ⌝ }
 {
     match fault {
         WireFault::Length(had) => RefusalNumbers {
@@ -64,7 +66,8 @@ fn fault_numbers(fault: WireFault) -> RefusalNumbers
 impl Refusal {
     /// The number of the refusal and its values.
     pub fn numbers(self) -> RefusalNumbers
-        ensures { λ r. ⌜ take (r .count) (r .values) ≡ refusal-numbers self ⌝ }
+        ensures count { λ r. ⌜ r .count ≡ length (refusal-numbers self) ⌝ }
+        ensures values { λ r. ⌜ r .values ≡ refusal-numbers self ++ replicate (4 - length (refusal-numbers self)) 0 ⌝ }
     {
         match self {
             Refusal::NoSuchPlace(place) => RefusalNumbers {

@@ -1,8 +1,11 @@
 // The product put together: the one place that chooses the source of station and till.
 ghost use mathlib.Core.Path.{_≡_};
+ghost use mathlib.Core.List.{[], _++_};
 ghost use Rattle.std.specs.Orderings.{Decides};
 ghost use Rattle.params.specs.Sizes.{Below-line};
+ghost use Rattle.fetch.specs.Held.{held};
 ghost use Rattle.sponge.specs.Book.{spongeBook};
+ghost use Rattle.sponge.specs.Remaining.{remaining};
 ghost use Rattle.rack.specs.Calls.{all-empty};
 ghost use Rattle.agreement.specs.Agreement.{Noise-tells, Noise-bounded, Opens, Never-out, Publishes};
 use fetch::Fetch;
@@ -16,7 +19,9 @@ use sponge::SpongeSource;
 pub type KitSource = Fetch<Sponge>;
 
 /// A source with nothing to come yet.
-pub fn new_source() -> KitSource {
+pub fn new_source() -> KitSource
+    ensures { λ r. ⌜ held (r .from) (r .upto) (r .bytes) ++ remaining (r .source) ≡ [] ⌝ }
+{
     Fetch::new(Sponge::new())
 }
 

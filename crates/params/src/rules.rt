@@ -2,7 +2,7 @@
 ghost use mathlib.Core.Path.{_≡_};
 ghost use mathlib.Core.List.{_++_};
 ghost use Prim.Native.Nat.{ℕ, _-_, _<_, _≤_};
-ghost use lib.ListN.{length, getD, replicate, take};
+ghost use lib.ListN.{length, getD, replicate};
 ghost use Rattle.std.specs.Orderings.{Decides};
 ghost use Rattle.std.specs.Results.{Cases};
 ghost use Rattle.params.specs.Limits.{most-kappa, most-flips, most-checks};
@@ -42,7 +42,7 @@ impl Rule {
 impl SetFault {
     // The number of the refusal and its values, filled with zeros.
     pub fn numbers(self) -> [u16; 3]
-        ensures { λ r. ⌜ take (length (refusal-numbers self)) r ≡ refusal-numbers self ⌝ }
+        ensures { λ r. ⌜ r ≡ refusal-numbers self ++ replicate (3 - length (refusal-numbers self)) 0 ⌝ }
     {
         match self {
             SetFault::Broken(rule) => [11, rule.number(), 0],

@@ -41,7 +41,8 @@ fn read_fields(
     read_bits(set, u, v, secret, product, out);
 }
 
-/// The raw bits of a parcel that was checked, read with the positions of a secret.
+/// The raw bits of a parcel, read with the positions of a secret. Raw read and open have checked the parcel, expanded the positions for the
+/// same set, and lend n + 1 words and μ bytes.
 pub fn read_parcel_bits(
     set: &Set,
     parcel: &[u8],
@@ -90,7 +91,8 @@ fn correct_bits(
     correct(&set.code, raw, message);
 }
 
-/// The message that is found in a parcel that was checked, with the positions of a secret.
+/// The message that is found in a parcel, with the positions of a secret. Open has checked the parcel, expanded the positions for the same
+/// set, and lends n + 1 words and κ/8 bytes.
 pub fn find_message(
     set: &Set,
     parcel: &[u8],

@@ -24,7 +24,8 @@ fn coefficients(words: &[u16], out: &mut [Coefficient])
     }
 }
 
-/// Expands a seed to the public polynomial of a set. The product area, which holds n + 1 words, is room for the values drawn.
+/// Expands a seed to the public polynomial of a set. The product area is room for the values drawn: every call lends n + 1 words of it, and
+/// n coefficients.
 pub fn expand_polynomial<S: Source>(
     set: &Set,
     source: &mut S,
@@ -44,7 +45,7 @@ pub fn expand_polynomial<S: Source>(
     Ok(())
 }
 
-/// Expands a seed to the h positions of a secret of a set.
+/// Expands a seed to the h positions of a secret of a set. Every call lends h words of the secret area.
 pub fn expand_positions<S: Source>(
     set: &Set,
     source: &mut S,

@@ -50,7 +50,7 @@ pub(crate) fn sealing_of(message: &[u8], key: &[u8]) -> Sealing
     Sealing { l, tag, seed }
 }
 
-/// The secret that 32 bytes and a parcel give.
+/// The secret that 32 bytes and a parcel give. Seal and open have tested that its buffer holds 32 bytes.
 pub fn secret_from(l: &[u8; 32], parcel: &[u8], out: &mut [u8])
     requires { ⌜ length (now out) ≡ 32 ⌝ }
     ensures { λ _. ⌜ now (out .exit) ≡ secret-from (now (l .entry)) (now (parcel .entry)) ⌝ }

@@ -92,7 +92,8 @@ fn make_parcel(
     );
 }
 
-/// Seals a message to a key whose polynomials are a and b: writes the parcel, and answers l, from which the secret comes.
+/// Seals a message to a key whose polynomials are a and b: writes the parcel, and answers l, from which the secret comes. Seal and open have
+/// tested or made all of these lengths.
 pub fn encrypt<S: Source>(
     set: &Set,
     source: &mut S,

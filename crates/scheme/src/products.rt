@@ -17,7 +17,8 @@ use rounding::raw_bits;
 use rounding::round_product;
 use rounding::symbols;
 
-/// The rounded reduced product of a and a secret.
+/// The rounded reduced product of a and a secret. Publish, seal and open lend n + 1 words and n coefficients, and expanded the positions for
+/// the same set.
 pub fn round_times(
     set: &Set,
     a: &[Coefficient],
