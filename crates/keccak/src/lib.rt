@@ -1,4 +1,6 @@
 // The permutation Keccak-p[1600, 24] of FIPS 202.
+#![tactic(auto)]
+
 ghost use Rattle.std.specs.Prelude.{◌≡◌, ◌<◌, [], ◌∷◌};
 ghost use Rattle.keccak.specs.Keccak.{theta, rho, pi, mixed, chi, iota, round_constant, keccak_p};
 
