@@ -1,4 +1,6 @@
 // Byte sources: the trait that every source of expanded bytes meets, its fault, and the tape.
+#![tactic(auto)]
+
 ghost use Rattle.std.specs.Prelude.{◌≡◌, ℕ, ◌-◌, ◌^◌, ◌<◌, min, List, length, MatchResult};
 ghost use Rattle.source.specs.Draws.{Filled, Refused};
 
