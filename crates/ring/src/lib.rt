@@ -1,4 +1,6 @@
 // The ring of the kit: groups, the three sorts of coefficient, the product by a secret, and its laws.
+#![tactic(auto)]
+
 mod groups;
 mod laws;
 mod sorts;

@@ -136,7 +136,7 @@ pub trait Sort: Copy {
     fn word(self) -> Self::Word
         ensures { result ≡ bare self };
 
-    ghost whole: { (x : Self) → Self.Word.Group.fits (bare x) };
+    ghost whole: { (x : Self) → Self.Word.fits (bare x) };
 }
 
 impl Sort for Coefficient {

@@ -1,5 +1,5 @@
 // The product of a polynomial and a sparse ternary secret, once for every sort of coefficient.
-ghost use Rattle.std.specs.Prelude.{◌≡◌, ℕ, ◌+◌, ◌<◌, ◌≤◌, map, length, get_or, if◌then◌else◌, slice_index_or};
+ghost use Rattle.std.specs.Prelude.{◌≡◌, ℕ, ◌+◌, ◌<◌, ◌≤◌, map, length, slice_index_or, if◌then◌else◌};
 ghost use Rattle.std.specs.List.{AllByRecursion as All};
 ghost use Rattle.ring.specs.Lists.{listed};
 ghost use Rattle.ring.specs.Cyclic.{along, back, cyclic_in, Within};
@@ -10,7 +10,7 @@ use crate::sorts::Sort;
 // One run: each element of `src` is added to the element of `dst` at its place, or subtracted from it.
 fn run<S: Sort>(dst: &mut [S::Word], src: &[S], subtract: bool)
     requires { length src.now ≤ length dst.old }
-    ensures { dst.new ≡ along (if subtract then S.Word.Group.minus else S.Word.Group.plus) dst.old (map bare src.now) }
+    ensures { dst.new ≡ along (if subtract then S.Word.minus else S.Word.plus) dst.old (map S.bare src.now) }
 {
     for i in 0..src.len() {
         dst[i] = dst[i].step(src[i].word(), subtract);
@@ -21,9 +21,9 @@ fn run<S: Sort>(dst: &mut [S::Word], src: &[S], subtract: bool)
 fn shifted<S: Sort>(out: &mut [S::Word], poly: &[S], p: usize, subtract: bool)
     requires long { length out.old ≡ length poly.now + 1 }
     requires within { p < length poly.now }
-    requires fit { All S.Word.Group.fits out.old }
-    ensures each { (k : ℕ) → k < length poly.now + 1 → slice_index_or out.new k S.Word.Group.none ≡ (if subtract then S.Word.Group.minus else S.Word.Group.plus) (slice_index_or out.old k S.Word.Group.none) (slice_index_or (map bare poly.now) (back (length poly.now + 1) k p) S.Word.Group.none) }
-    ensures fit { All S.Word.Group.fits out.new }
+    requires fit { All S.Word.fits out.old }
+    ensures each { (k : ℕ) → k < length poly.now + 1 → slice_index_or out.new k S.Word.none ≡ (if subtract then S.Word.minus else S.Word.plus) (slice_index_or out.old k S.Word.none) (slice_index_or (map S.bare poly.now) (back (length poly.now + 1) k p) S.Word.none) }
+    ensures fit { All S.Word.fits out.new }
 {
     let n = poly.len();
     let all = out.len();
@@ -33,7 +33,7 @@ fn shifted<S: Sort>(out: &mut [S::Word], poly: &[S], p: usize, subtract: bool)
 }
 
 fn clear<T: Group>(out: &mut [T])
-    ensures { (k : ℕ) → k < length out.new → slice_index_or out.new k none ≡ none }
+    ensures { (k : ℕ) → k < length out.new → slice_index_or out.new k T.none ≡ T.none }
 {
     for i in 0..out.len() {
         out[i] = T::zero();
@@ -45,7 +45,7 @@ fn clear<T: Group>(out: &mut [T])
 pub fn multiply<S: Sort>(poly: &[S], secret: &[u16], out: &mut [S::Word])
     requires long { length out.old ≡ length poly.now + 1 }
     requires within { Within (length poly.now) secret.now }
-    ensures { out.new ≡ listed (length poly.now + 1) (cyclic_in S.Word.Group.none S.Word.Group.minus (length poly.now + 1) (λ j. get_or (map bare poly.now) j S.Word.Group.none) secret.now) }
+    ensures { out.new ≡ listed (length poly.now + 1) (cyclic_in S.Word.none S.Word.minus (length poly.now + 1) (λ j. slice_index_or (map S.bare poly.now) j S.Word.none) secret.now) }
 {
     clear(out);
     for j in 0..secret.len() {
