@@ -1,12 +1,11 @@
 -- What follows for a proposal and its code where rules are kept.
-use Rattle.std.proofs.Common.{◌≡◌, ℕ, ◌-◌, ◌≤◌, List, ◌++◌, length, get_or, replicate, sym, ap, subst, arith}
+use Rattle.std.proofs.Common.{◌≡◌, ℕ, ◌-◌, ◌≤◌, ◌++◌, length, get_or, replicate, sym, ap, subst, arith}
 use Rattle.std.proofs.lemmas.List.{get_or_append_left}
-use Rattle.params.specs.Checks.{LengthsFit, MarkFits, symbol_count}
+use Rattle.params.specs.Checks.{LengthsFit, symbol_count}
 use Rattle.params.specs.Limits.{most_checks, most_n}
 use Rattle.params.specs.Rules.{CodeFits, Judged, Keeps, KeepsBelow, KeepsRules, proposed_lengths, shape_of}
 use Rattle.params.specs.declared.shape.Shape.{Shape}
 use Rattle.params.specs.declared.proposal.Proposal.{Proposal}
-use Rattle.params.specs.declared.proposal.Rule.{Rule}
 use Rattle.params.specs.declared.proposal.Rule.TheVariants.{RingSize, Weight, Exponents, Balance, Payload, Flips, Lengths, BlockMark, SymbolCount}
 
 -- lengths that fit as they are proposed fit in the table

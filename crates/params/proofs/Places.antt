@@ -1,10 +1,10 @@
 -- Places in checks, and why the code rule need only be tried at position 0.
-use Rattle.std.proofs.Common.{◌≡◌, ℕ, ◌+◌, ◌-◌, ◌*◌, ◌/◌, ◌%◌, ◌<◌, ◌≤◌, Bool, true, false, cond, ◌&&◌, eqb, sym, refl, ap, ◌∙◌, inl, inr, mod-lt, arith}
+use Rattle.std.proofs.Common.{◌≡◌, ℕ, ◌+◌, ◌-◌, ◌*◌, ◌/◌, ◌%◌, ◌<◌, ◌≤◌, Bool, true, false, cond, eqb, sym, refl, ap, ◌∙◌, inl, inr, mod-lt, arith}
 use native.Mathlib.Nat.{mod-add-div', add-mul-mod_self_right, mul-mod_left, zero-mod, zero-div, div-eq_of_lt}
 use Rattle.std.proofs.lemmas.Bool.{cases_eq, cases_Bool, eq-eqb, ne_eqb, eqb-true, and_parts, and_from, cond-true, cond-false}
 use Rattle.std.proofs.lemmas.Nat.{div_below}
 use Rattle.params.specs.declared.shape.Shape.{Shape}
-use Rattle.params.specs.Sums.{sum, bit}
+use Rattle.params.specs.Sums.{bit}
 use Rattle.params.specs.Checks.{check_length, in_blocks, block_length, place_of, SharesTwo, CodeRule, LengthsFit, MarkFits, shared_with_first}
 use Rattle.params.proofs.Sums.{sum_more, count_two, two_of}
 

@@ -1,5 +1,5 @@
 -- The rules of a set, over what is proposed for one, and what a refusal says.
-use Rattle.std.specs.Prelude.{◌≡◌, ℕ, ◌+◌, ◌-◌, ◌*◌, ◌%◌, ◌<◌, ◌≤◌, true, List, [], ◌∷◌, ◌++◌, length, replicate, slice_index}
+use Rattle.std.specs.Prelude.{◌≡◌, ℕ, ◌+◌, ◌-◌, ◌*◌, ◌%◌, ◌<◌, ◌≤◌, List, [], ◌∷◌, ◌++◌, length, replicate, slice_index}
 use Rattle.params.specs.Limits.{most_n, most_kappa, most_flips, most_checks, longest_check, word_bits}
 use Rattle.params.specs.Checks.{LengthsFit, MarkFits, SharesTwo, CodeRule, symbol_count}
 use Rattle.params.specs.declared.shape.Shape.{Shape}

@@ -1,6 +1,5 @@
 -- The moduli of a set, its bound and line, and the lengths of its keys and parcels.
 use Rattle.std.specs.Prelude.{ℕ, ◌+◌, ◌*◌, ◌/◌, ◌^◌, ◌<◌}
-use Rattle.params.specs.Checks.{symbol_count}
 use Rattle.params.specs.declared.moduli.Moduli.{Moduli}
 use Rattle.params.specs.declared.set.Set.{Set}
 

@@ -1,4 +1,6 @@
 // Parameter sets: what may be proposed for one, the rules that every set keeps, and what a set promises by its numbers alone.
+#![tactic(auto)]
+
 mod blocks;
 pub mod code;
 pub mod line;

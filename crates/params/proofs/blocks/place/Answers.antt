@@ -1,5 +1,4 @@
-use Rattle.std.proofs.Common.{◌≡◌, ℕ, ◌<◌, subst, arith}
-use Rattle.params.specs.Checks.{check_length, place_of}
+use Rattle.std.proofs.Common.{arith}
 use Rattle.params.proofs.Places.{place_in_block, place_inside}
 use Rattle.params.proofs.blocks.place.Goals as goal
 

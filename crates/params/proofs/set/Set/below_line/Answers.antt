@@ -1,4 +1,4 @@
-use Rattle.std.proofs.Common.{◌≡◌, Decides, arith}
+use Rattle.std.proofs.Common.{Decides, arith}
 use Rattle.std.proofs.lemmas.Bool.Decides.{Decides-like}
 use Rattle.params.specs.Sizes.{BelowLine}
 use Rattle.params.proofs.Lines.{quarter_from_line, line_from_quarter}
