@@ -1,4 +1,6 @@
 // SHAKE256 of FIPS 202: bytes go in, the message ends, bytes come out.
+#![tactic(auto)]
+
 pub mod known;
 mod state;
 

@@ -3,4 +3,4 @@ use Rattle.shake.proofs.lane.Goals as goal
 
 pub returns : goal.returns
 unfolding lane_at
-returns c = c.from-le-bytes.ensures
+returns c = c.from_le_bytes.ensures

@@ -16,7 +16,7 @@ pub loop-done-preserved : goal.loop-done-preserved
 loop-done-preserved c = (
   omega arith,
   λ m.
-      c.absorb-run.ensures _
+      c.absorb_run.ensures _
       ∙ ap (filled c.loop-done.self) (rejoined c.args.bytes.now m c.loop-done.done c.min-k.result _ (omega arith))
       ∙ c.loop-done.invariant.1 m,
 )

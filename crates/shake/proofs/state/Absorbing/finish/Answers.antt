@@ -7,4 +7,4 @@ use Rattle.shake.proofs.state.Absorbing.finish.Goals as goal
 pub returns : goal.returns
 unfolding after coming
 returns c k =
-    ap (λ (s : List ℕ). output s 0 k) (c.permute-bytes.ensures ∙ sym (last_block c.args.self.state c.args.self.position (omega arith) (omega arith)))
+    ap (λ (s : List ℕ). output s 0 k) (c.permute_bytes.ensures ∙ sym (last_block c.args.self.state c.args.self.position (omega arith) (omega arith)))

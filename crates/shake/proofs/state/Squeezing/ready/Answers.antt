@@ -11,7 +11,7 @@ returns-then-self-eq-RATE c =
     record {
       same =
           λ k.
-          ap (λ (t : List ℕ). output t 0 k) c.permute-bytes.ensures
+          ap (λ (t : List ℕ). output t 0 k) c.permute_bytes.ensures
           ∙ next_block s.state k
           ∙ ap (λ (p : ℕ). output s.state p k) (sym c.if-self-eq-RATE.true);
       room = omega arith;

@@ -17,11 +17,11 @@ loop-done-preserved c =
     let k = c.min-k.result in
     let s = c.ready.new.self.state in
     let p = c.ready.new.self.position in
-    let run = c.copy-from-slice.new.self in
+    let run = c.copy_from_slice.new.self in
     let z : c.ready.new.self.position + c.min-k.result - c.ready.new.self.position ≡ c.min-k.result = omega arith in
-    let n : length c.copy-from-slice.new.self ≡ c.min-k.result = omega (arith, simp (length-take, length-drop) at c.copy-from-slice.ensures.len) in
+    let n : length c.copy_from_slice.new.self ≡ c.min-k.result = omega (arith, simp (length-take, length-drop) at c.copy_from_slice.ensures.len) in
     let e =
-    c.copy-from-slice.ensures.after
+    c.copy_from_slice.ensures.after
     ∙ ap (λ (j : ℕ). take j (drop p s)) z
     ∙ in_block s p k (omega arith) (omega arith)
     ∙ c.ready.ensures.same k
