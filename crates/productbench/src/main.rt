@@ -1,4 +1,6 @@
 // Times the product: n = 1018 coefficients by a secret of 254 positions, 20,000 times. bench/product.c does the same in C.
+#![tactic(auto)]
+
 ghost use Rattle.std.specs.Prelude.{◌≡◌, length};
 ghost use Rattle.ring.specs.Cyclic.{Within};
 
