@@ -1,4 +1,6 @@
 // Fields to bits to bytes, and back: what keys and parcels are made of.
+#![tactic(auto)]
+
 mod cursor;
 mod field;
 mod reader;

@@ -101,7 +101,7 @@ fn get(bytes: &[u8], p: Cursor, w: u32) -> (u16, Cursor)
 fn get_all<F: Field>(bytes: &[u8], p: Cursor, w: u32, xs: &mut [F]) -> Cursor
     requires held { (w ≤ 15) × (p.held < 32) }
     requires more { (p.at ≤ length bytes.now) × (p.at * 8 + length xs.old * w ≤ length bytes.now * 8 + p.held) }
-    ensures value { xs.new ≡ map made (cut (length xs.old) w (unread bytes.now p)) }
+    ensures value { xs.new ≡ map F.made (cut (length xs.old) w (unread bytes.now p)) }
     ensures held { result.held < 32 }
     ensures place { (result.at ≤ length bytes.now) × (result.at * 8 + p.held ≡ p.at * 8 + length xs.old * w + result.held) }
     ensures unread { unread bytes.now result ≡ drop (length xs.old * w) (unread bytes.now p) }
@@ -117,9 +117,9 @@ fn get_all<F: Field>(bytes: &[u8], p: Cursor, w: u32, xs: &mut [F]) -> Cursor
 
 // The fields that stand in the bytes, xs first and then ys, whatever the fill bits are. Every call hands as many bytes as the run takes.
 pub fn fields<F: Field, G: Field>(moduli: Moduli, bytes: &[u8], xs: &mut [F], ys: &mut [G])
-    requires { length bytes.now ≡ bytes_for (length xs.old * F.Field.width moduli + length ys.old * G.Field.width moduli) }
-    ensures first { xs.new ≡ map F.Field.made (fields_at 0 (length xs.old) (F.Field.width moduli) bytes.now) }
-    ensures second { ys.new ≡ map G.Field.made (fields_at (length xs.old * F.Field.width moduli) (length ys.old) (G.Field.width moduli) bytes.now) }
+    requires { length bytes.now ≡ bytes_for (length xs.old * F.width moduli + length ys.old * G.width moduli) }
+    ensures first { xs.new ≡ map F.made (fields_at 0 (length xs.old) (F.width moduli) bytes.now) }
+    ensures second { ys.new ≡ map G.made (fields_at (length xs.old * F.width moduli) (length ys.old) (G.width moduli) bytes.now) }
 {
     let v = F::field_width(moduli);
     let w = G::field_width(moduli);
@@ -141,7 +141,7 @@ fn ends_in_zeros(bytes: &[u8], spare: u32) -> bool
 // How many bits fill the last byte, for n fields of one sort and then m of another. Only remainders by 8 count, so that no product wraps.
 fn fill_count<F: Field, G: Field>(moduli: Moduli, n: usize, m: usize) -> u32
     ensures few { result < 8 }
-    ensures ends { n * F.Field.width moduli + m * G.Field.width moduli + result ≡ bytes_for (n * F.Field.width moduli + m * G.Field.width moduli) * 8 }
+    ensures ends { n * F.width moduli + m * G.width moduli + result ≡ bytes_for (n * F.width moduli + m * G.width moduli) * 8 }
 {
     let v = F::field_width(moduli);
     let w = G::field_width(moduli);
@@ -156,8 +156,8 @@ pub fn check_fill<F: Field, G: Field>(
     m: usize,
     bytes: &[u8],
 ) -> Result<(), PackFault>
-    requires { length bytes.now ≡ bytes_for (n * F.Field.width moduli + m * G.Field.width moduli) }
-    ensures { result ≡ fill_form (n * F.Field.width moduli + m * G.Field.width moduli) bytes.now }
+    requires { length bytes.now ≡ bytes_for (n * F.width moduli + m * G.width moduli) }
+    ensures { result ≡ fill_form (n * F.width moduli + m * G.width moduli) bytes.now }
 {
     let spare = fill_count::<F, G>(moduli, n, m);
     if ends_in_zeros(bytes, spare) {
@@ -174,8 +174,8 @@ pub fn unpack<F: Field, G: Field>(
     xs: &mut [F],
     ys: &mut [G],
 ) -> Result<(), PackFault>
-    requires { length bytes.now ≡ bytes_for (length xs.old * F.Field.width moduli + length ys.old * G.Field.width moduli) }
-    ensures { MatchResult result (λ _. unpacked (length xs.old) (F.Field.width moduli) (length ys.old) (G.Field.width moduli) bytes.now ≡ Ok (map F.Field.bare xs.new, map G.Field.bare ys.new)) (λ e. (unpacked (length xs.old) (F.Field.width moduli) (length ys.old) (G.Field.width moduli) bytes.now ≡ Err e) × (xs.new ≡ xs.old) × (ys.new ≡ ys.old)) }
+    requires { length bytes.now ≡ bytes_for (length xs.old * F.width moduli + length ys.old * G.width moduli) }
+    ensures { MatchResult result (λ _. unpacked (length xs.old) (F.width moduli) (length ys.old) (G.width moduli) bytes.now ≡ Ok (map F.bare xs.new, map G.bare ys.new)) (λ e. (unpacked (length xs.old) (F.width moduli) (length ys.old) (G.width moduli) bytes.now ≡ Err e) × (xs.new ≡ xs.old) × (ys.new ≡ ys.old)) }
 {
     check_fill::<F, G>(moduli, xs.len(), ys.len(), bytes)?;
     fields(moduli, bytes, xs, ys);

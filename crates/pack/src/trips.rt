@@ -25,9 +25,9 @@ pub fn pack_unpack<F: Field, G: Field>(
     us: &mut [F],
     vs: &mut [G],
 ) -> Result<(), PackFault>
-    requires room { length bytes.old ≡ bytes_for (length xs.now * F.Field.width moduli + length ys.now * G.Field.width moduli) }
+    requires room { length bytes.old ≡ bytes_for (length xs.now * F.width moduli + length ys.now * G.width moduli) }
     requires same { (length us.old ≡ length xs.now) × (length vs.old ≡ length ys.now) }
-    requires below { (All (λ x. F.Field.bare x < 2 ^ F.Field.width moduli) xs.now) × (All (λ y. G.Field.bare y < 2 ^ G.Field.width moduli) ys.now) }
+    requires below { (All (λ x. F.bare x < 2 ^ F.width moduli) xs.now) × (All (λ y. G.bare y < 2 ^ G.width moduli) ys.now) }
     ensures ok { result ≡ Ok tt }
     ensures first { us.new ≡ xs.now }
     ensures second { vs.new ≡ ys.now }
@@ -44,7 +44,7 @@ pub fn unpack_pack<F: Field, G: Field>(
     ys: &mut [G],
     again: &mut [u8],
 ) -> Result<(), PackFault>
-    requires room { length bytes.now ≡ bytes_for (length xs.old * F.Field.width moduli + length ys.old * G.Field.width moduli) }
+    requires room { length bytes.now ≡ bytes_for (length xs.old * F.width moduli + length ys.old * G.width moduli) }
     requires same { length again.old ≡ length bytes.now }
     ensures { MatchResult result (λ _. again.new ≡ bytes.now) (λ _. again.new ≡ again.old) }
 {

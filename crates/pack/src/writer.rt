@@ -78,7 +78,7 @@ fn put_all<F: Field>(out: &mut [u8], p: Cursor, w: u32, xs: &[F]) -> Cursor
     requires room { p.at * 8 + p.held + length xs.now * w ≤ length out.old * 8 }
     ensures held { result.held < 32 }
     ensures place { result.at * 8 + result.held ≡ p.at * 8 + p.held + length xs.now * w }
-    ensures written { written out.new result ≡ written out.old p ++ run w (map bare xs.now) }
+    ensures written { written out.new result ≡ written out.old p ++ run w (map F.bare xs.now) }
 {
     let mut cursor = p;
     for i in 0..xs.len() {
@@ -103,8 +103,8 @@ fn finish(out: &mut [u8], p: Cursor)
 // Packs the fields xs and then the fields ys in one run, each by the low bits of its own width: the most significant bit first, without gaps,
 // with zero bits to the end of the last byte. One list alone is packed beside an empty one. Every call lends as many bytes as the run takes.
 pub fn pack<F: Field, G: Field>(moduli: Moduli, xs: &[F], ys: &[G], out: &mut [u8])
-    requires { length out.old ≡ bytes_for (length xs.now * F.Field.width moduli + length ys.now * G.Field.width moduli) }
-    ensures { out.new ≡ packed (F.Field.width moduli) (map F.Field.bare xs.now) (G.Field.width moduli) (map G.Field.bare ys.now) }
+    requires { length out.old ≡ bytes_for (length xs.now * F.width moduli + length ys.now * G.width moduli) }
+    ensures { out.new ≡ packed (F.width moduli) (map F.bare xs.now) (G.width moduli) (map G.bare ys.now) }
 {
     let v = F::field_width(moduli);
     let w = G::field_width(moduli);

@@ -5,5 +5,5 @@ use Rattle.pack.proofs.reader.fill_count.Goals as goal
 pub returns : goal.returns
 returns g c = record {
   few = omega arith;
-  ends = fill_count c.args.n (g.F.Field.width c.args.moduli) c.args.m (g.G.Field.width c.args.moduli) _ _ c.field-width-v.ensures c.field-width-w.ensures;
+  ends = fill_count c.args.n (g.F.Field.width c.args.moduli) c.args.m (g.G.Field.width c.args.moduli) _ _ c.field_width-v.ensures c.field_width-w.ensures;
 }

@@ -7,4 +7,4 @@ pub returns : goal.returns
 returns g c =
     c.pack.ensures
     ∙ packs_unpacked (length c.args.xs.now) (g.F.Field.width c.args.moduli) (length c.args.ys.now) (g.G.Field.width c.args.moduli) c.args.bytes.now _ _
-    (All-from_get_or (λ x. x < 256) c.args.bytes.now 0 (λ i h. omega (arith, c.type-inv.bytes i))) c.requires.room c.in-ok-unpack.ensures
+    (All-from_get_or (λ x. x < 256) c.args.bytes.now 0 (λ i h. omega (arith, c.type_inv.bytes i))) c.requires.room c.in_ok-unpack.ensures

@@ -6,17 +6,17 @@ pub returns-then-q-lt32 : goal.returns-then-q-lt32
 returns-then-q-lt32 c = record {
   held = c.if-q-lt32.true;
   place = omega arith;
-  written = written_in c.args.out.now c.args.p c.shift-in-q.result _ c.shift-in-q.ensures.at c.shift-in-q.ensures.bits;
+  written = written_in c.args.out.now c.args.p c.shift_in-q.result _ c.shift_in-q.ensures.at c.shift_in-q.ensures.bits;
 }
 
 pub returns : goal.returns
 returns c =
-    let q = c.shift-in-q.result in
+    let q = c.shift_in-q.result in
     record {
       held = omega arith;
       place = omega arith;
       written =
-          word_written c.args.out.now c.put-byte-d.new.out q.acc q.held q.at _ c.put-byte-d.result (omega arith) refl refl refl (omega arith)
-          (c.put-byte-d.ensures.written ∙ c.put-byte-c.ensures.written ∙ c.put-byte-b.ensures.written ∙ c.put-byte-a.ensures.written)
-          ∙ written_in c.args.out.now c.args.p q _ c.shift-in-q.ensures.at c.shift-in-q.ensures.bits;
+          word_written c.args.out.now c.put_byte-d.new.out q.acc q.held q.at _ c.put_byte-d.result (omega arith) refl refl refl (omega arith)
+          (c.put_byte-d.ensures.written ∙ c.put_byte-c.ensures.written ∙ c.put_byte-b.ensures.written ∙ c.put_byte-a.ensures.written)
+          ∙ written_in c.args.out.now c.args.p q _ c.shift_in-q.ensures.at c.shift_in-q.ensures.bits;
     }
