@@ -1,18 +1,11 @@
 -- Where payload positions have their check bits.
-use Rattle.std.proofs.Common.{◌≡◌, ℕ, zero, suc, ◌+◌, ◌-◌, ◌*◌, ◌/◌, ◌%◌, ◌^◌, ◌<◌, ◌≤◌, Bool, true, false, cond, eqb, leb, List, length, get_or, set, replicate, sym, refl, ap, ◌∙◌, ap₂, inl, inr, mod-eq_of_lt, arith, get_or-set_other, get_or-set_same}
+use Rattle.std.proofs.Common.{◌≡◌, ℕ, ◌+◌, ◌*◌, ◌/◌, ◌%◌, ◌<◌, false, sym, ap, ◌∙◌, mod-eq_of_lt, arith}
 use native.Mathlib.Nat.{mod-add-mod, mod_self}
-use lib.Bits.{bit_and, bit_xor, and_mask}
-use Rattle.std.proofs.lemmas.List.{get_or-replicate, get_or_past, length-replicate}
-use Rattle.std.proofs.lemmas.Bool.{cases_eq, cases_lt, eq-eqb, ne_eqb, cond-false}
-use Rattle.params.specs.Sums.{sum, bit}
-use Rattle.params.specs.Checks.{check_length, check_start, in_blocks, block_length, place_of, LengthsFit, MarkFits}
+use Rattle.std.proofs.lemmas.Bool.{cond-false}
+use Rattle.params.specs.Checks.{check_length, check_start, in_blocks, block_length, place_of}
 use Rattle.params.specs.declared.shape.Shape.{Shape}
 use Rattle.params.specs.declared.code.Code.{Code}
-use Rattle.params.proofs.Sums.{sum_none, sum_more, sum_same}
 use Rattle.params.proofs.Places.{place_inside}
-use Rattle.code.specs.Words.{Bits, message_bit, parity, added, code_word}
-use Rattle.code.specs.Correcting.{differs, differing, corrected_bit}
-use Rattle.code.specs.Compared.{Compared, votes, decided_bit}
 use Rattle.code.proofs.Words.{check_within}
 
 -- where position k has its bit of check j, a word has a symbol

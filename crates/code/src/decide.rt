@@ -1,5 +1,5 @@
 // Deciding which payload bits of a compared word are flipped. No branch and no index depends on its bits.
-ghost use Rattle.std.specs.Prelude.{◌≡◌, ℕ, ◌+◌, ◌-◌, ◌*◌, ◌<◌, ◌≤◌, leb, length, if◌then◌else◌, nat_le, slice_index};
+ghost use Rattle.std.specs.Prelude.{◌≡◌, ℕ, ◌+◌, ◌-◌, ◌*◌, ◌<◌, ◌≤◌, length, if◌then◌else◌, nat_le, slice_index};
 ghost use Rattle.params.specs.Checks.{check_start, place_of};
 ghost use Rattle.params.specs.Limits.{most_flips, most_checks, most_kappa};
 ghost use Rattle.params.specs.Sums.{bit};
@@ -61,7 +61,7 @@ fn decided(f: u16, received: u8, differing: u8) -> u8
     requires small { received < 2 }
     requires few { f ≤ most_flips }
     requires counted { differing ≤ most_checks }
-    ensures value { result ≡ (if leb (f + 1) differing then 1 - received else received) }
+    ensures value { result ≡ (if nat_le (f + 1) differing then 1 - received else received) }
     ensures small { result < 2 }
 {
     received ^ outvoted(f, differing)

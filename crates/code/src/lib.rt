@@ -1,4 +1,6 @@
 // The correcting code of a set: encoding a message, and correcting a received word. A word has one byte, 0 or 1, for each symbol.
+#![tactic(auto)]
+
 ghost use Rattle.std.specs.Prelude.{◌≡◌, ◌/◌, length};
 ghost use Rattle.code.specs.Words.{Bits, code_word};
 ghost use Rattle.code.specs.Correcting.{corrected_message, Mends};

@@ -12,5 +12,5 @@ returns c =
     let v = c.args.received.now in
     let value : c.loop-i.message ≡ corrected_message s v = corrected_only s v c.loop-i.message (omega arith) (λ i h.
     c.loop-i.invariant i (omega arith)
-    ∙ number_same 8 _ _ (λ q lt. decided s code.lengths code.mark v c.compare-checks-compared.result c.compare-checks-compared.ensures.compared (8 * i + q) (omega arith))) in
+    ∙ number_same 8 _ _ (λ q lt. decided s code.lengths code.mark v c.compare_checks-compared.result c.compare_checks-compared.ensures.compared (8 * i + q) (omega arith))) in
     record { value = value; mends = subst (λ (r : List ℕ). Mends s v r) (sym value) (mends code v c.requires.long c.requires.bits) }

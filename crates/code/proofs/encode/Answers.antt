@@ -16,4 +16,4 @@ loop-k-preserved c = (
 pub returns : goal.returns
 returns c =
     let code = c.args.code.now in
-    encoded code c.args.message.now c.loop-k.word c.add-checks.new.word (omega (arith, c.add-checks.auto.word)) (λ k h. c.loop-k.invariant.0 k (omega arith)) (λ i h. c.loop-k.invariant.1 i (omega arith)) c.add-checks.ensures.payload c.add-checks.ensures.checks
+    encoded code c.args.message.now c.loop-k.word c.add_checks.new.word (omega (arith, c.add_checks.auto.word)) (λ k h. c.loop-k.invariant.0 k (omega arith)) (λ i h. c.loop-k.invariant.1 i (omega arith)) c.add_checks.ensures.payload c.add_checks.ensures.checks

@@ -12,8 +12,8 @@ loop-k-init c = (
   (λ q h. tally_none c.args.code.now.shape c.args.word.now c.args.from c.args.j q (c.requires.check q h)),
 )
 
-pub overflow-add-word : goal.overflow-add-word
-overflow-add-word c = omega (arith, bit_inside c.args.code.now c.args.j c.loop-k.k c.requires.known (omega arith), c.loop-k.invariant.0)
+pub overflow_add-word : goal.overflow_add-word
+overflow_add-word c = omega (arith, bit_inside c.args.code.now c.args.j c.loop-k.k c.requires.known (omega arith), c.loop-k.invariant.0)
 
 pub bounds-word-from : goal.bounds-word-from
 bounds-word-from c = omega (arith, bit_inside c.args.code.now c.args.j c.loop-k.k c.requires.known (omega arith), c.loop-k.invariant.0)
@@ -32,7 +32,7 @@ loop-k-preserved c =
     let is = c.loop-k.invariant.0 in
     let inside = place_inside s code.lengths code.mark c.args.j k c.requires.known (omega arith) in
     let room = bit_inside code c.args.j k c.requires.known (omega arith) in (
-      c.next-place-place.ensures,
+      c.next_place-place.ensures,
       (λ p h. get_or-set_other u at p _ 0 (omega arith) ∙ c.loop-k.invariant.1 p h),
       (λ p h. get_or-set_other u at p _ 0 (omega arith) ∙ c.loop-k.invariant.2 p h),
       (λ q h. tally_more s c.args.word.now u c.args.from c.args.j k q place (get_or u k 0) is (omega arith) (omega arith) (c.loop-k.invariant.1 k (omega arith)) (c.requires.payload k (omega arith)) c.loop-k.invariant.3 h),

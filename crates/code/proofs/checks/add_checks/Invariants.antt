@@ -1,5 +1,5 @@
-use Rattle.std.proofs.Common.{◌≡◌, ℕ, ◌+◌, ◌<◌, ◌≤◌, get_or}
-use Rattle.params.specs.Checks.{check_length, check_start}
+use Rattle.std.proofs.Common.{◌≡◌, ℕ, ◌≤◌, get_or}
+use Rattle.params.specs.Checks.{check_start}
 use Rattle.code.specs.Words.{Agree, PayloadAdded}
 use Rattle.code.proofs.checks.add_checks.Given as goal
 

@@ -1,4 +1,4 @@
-use Rattle.std.proofs.Common.{◌≡◌, ℕ, ◌<◌, length, get_or}
+use Rattle.std.proofs.Common.{◌≡◌, length}
 use Rattle.code.specs.Words.{Agree}
 use Rattle.params.specs.Limits.{most_n}
 use Rattle.code.proofs.checks.compare_checks.Given as goal

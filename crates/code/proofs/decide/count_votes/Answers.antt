@@ -17,8 +17,8 @@ loop-j-init c =
       (λ k h. none k ∙ sym (sum_none _)),
     )
 
-pub overflow-add-from : goal.overflow-add-from
-overflow-add-from c = let s = c.args.code.now.shape in omega (arith, check_within s c.loop-j.j (2 * s.f) (omega arith))
+pub overflow_add-from : goal.overflow_add-from
+overflow_add-from c = let s = c.args.code.now.shape in omega (arith, check_within s c.loop-j.j (2 * s.f) (omega arith))
 
 pub loop-j-preserved : goal.loop-j-preserved
 loop-j-preserved c =
@@ -29,9 +29,9 @@ loop-j-preserved c =
     let j = c.loop-j.j in
     let here : (k : ℕ) → get_or u (from + place_of s j k) 0 ≡ get_or u (check_start s j + place_of s j k) 0 = λ k. ap (λ x. get_or u (x + place_of s j k) 0) c.loop-j.invariant.0 in (
       omega (arith, start_more s j),
-      omega (arith, c.add-votes.auto.count),
-      (λ k h. omega (arith, c.add-votes.ensures k h, here k, c.requires.bits (check_start s j + place_of s j k) (bit_inside code j k (omega arith) h), c.loop-j.invariant.2 k h)),
-      (λ k h. omega (arith, c.add-votes.ensures k h, here k, c.loop-j.invariant.3 k h, sum_more j (λ i. get_or u (check_start s i + place_of s i k) 0))),
+      omega (arith, c.add_votes.auto.count),
+      (λ k h. omega (arith, c.add_votes.ensures k h, here k, c.requires.bits (check_start s j + place_of s j k) (bit_inside code j k (omega arith) h), c.loop-j.invariant.2 k h)),
+      (λ k h. omega (arith, c.add_votes.ensures k h, here k, c.loop-j.invariant.3 k h, sum_more j (λ i. get_or u (check_start s i + place_of s i k) 0))),
     )
 
 pub returns : goal.returns
