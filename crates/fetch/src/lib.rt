@@ -1,4 +1,6 @@
 // The fetch layer: a source over another that fetches bytes ahead, so that small draws seldom reach the source below.
+#![tactic(auto)]
+
 ghost use Rattle.std.specs.Prelude.{◌≡◌, ◌≤◌, ◌++◌, length};
 ghost use Rattle.fetch.specs.Held.{held};
 
@@ -23,7 +25,7 @@ impl<S: Source> Fetch<S> {
     /// A layer over this source that holds nothing yet: book and bytes to come are those of the source.
     pub fn new(source: S) -> Fetch<S>
         ensures under { result.source ≡ source }
-        ensures rest { held result.from result.upto result.bytes ++ rest result.source ≡ rest source }
+        ensures rest { held result.from result.upto result.bytes ++ S.rest result.source ≡ S.rest source }
     {
         Fetch {
             source,
@@ -35,8 +37,8 @@ impl<S: Source> Fetch<S> {
 
     // Lets go of what is held and fetches ahead what the source has, up to the layer's room.
     fn fetch_ahead(&mut self)
-        ensures book { book self.new.source ≡ book self.old.source }
-        ensures rest { held self.new.from self.new.upto self.new.bytes ++ rest self.new.source ≡ rest self.old.source }
+        ensures book { S.book self.new.source ≡ S.book self.old.source }
+        ensures rest { held self.new.from self.new.upto self.new.bytes ++ S.rest self.new.source ≡ S.rest self.old.source }
     {
         self.from = 0;
         self.upto = 0;

@@ -3,10 +3,10 @@ use Rattle.std.proofs.Common.{◌≡◌, length, arith, length-append, rules}
 use Rattle.fetch.proofs.Layer.{fetched}
 use Rattle.fetch.proofs.Fetch.fetch_ahead.Goals as goal
 
-pub invariant-of-self : goal.invariant-of-self
-invariant-of-self g c =
+pub invariant_of-self : goal.invariant_of-self
+invariant_of-self g c =
     let l : length c.draw.new.buffer ≡ c.min-count.result = search rules in
-    ((search rules, simp length-append (omega arith)), tt)
+    record { within = (search rules, simp length-append (omega arith)) }
 
 pub returns-in-Ok : goal.returns-in-Ok
 returns-in-Ok g c =
