@@ -1,4 +1,6 @@
 // Packing and unpacking of 1200 fields, many times over, for bench/pack.sh: `pack` and `unpack` take fields of 11 bits, and no argument a few runs of 6 bits.
+#![tactic(auto)]
+
 ghost use Rattle.std.specs.Prelude.{◌≡◌, ◌+◌, ◌*◌, length};
 ghost use Rattle.params.specs.Sizes.{bytes_for};
 
