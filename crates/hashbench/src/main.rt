@@ -1,4 +1,6 @@
 // Much input and much output of SHAKE256, for bench/shake.py: `in` hashes 64 MiB, `out` squeezes 64 MiB, and no argument does 1 MiB of each.
+#![tactic(auto)]
+
 use anyhow::anyhow;
 use shake::{Absorbing, Squeezing};
 use std::env;

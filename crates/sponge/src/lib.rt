@@ -1,4 +1,6 @@
 // The sponge: a byte source whose lists are the first bytes of SHAKE256 of a label and a seed.
+#![tactic(auto)]
+
 ghost use Rattle.std.specs.Prelude.{◌≡◌, []};
 ghost use Rattle.sponge.specs.Book.{sponge_book, sponge_book_fits};
 ghost use Rattle.sponge.specs.Remaining.{remaining};

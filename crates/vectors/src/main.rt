@@ -1,4 +1,6 @@
 // Runs the published vectors of SHAKE256 in data/shake256.txt: lines "message = HEX", each followed by a line "output = HEX".
+#![tactic(auto)]
+
 ghost use Rattle.std.specs.Prelude.{◌≡◌, ◌<◌, length, IfOk};
 ghost use Rattle.shake.specs.Shake.{shake256};
 
