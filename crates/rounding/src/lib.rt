@@ -1,4 +1,6 @@
 // Rounding, symbols, raw bits, slips and noise, over lent slices of words.
+#![tactic(auto)]
+
 mod elements;
 mod laws;
 mod lists;

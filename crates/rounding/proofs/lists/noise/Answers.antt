@@ -19,7 +19,7 @@ loop-i-preserved c =
     let f = c.args.second.now in
     let ws = c.args.product.now in
     placed_more (λ k y. y ≡ noise M (signed e k -ℤ signed f k) (get_or ws k 0 % p M)) c.loop-i.out i _ (pos 0) (omega arith) c.loop-i.invariant
-    (to_z-of_z w32 c.to-noise.result (record { sfits = c.to-noise.type-inv }) ∙ c.to-noise.ensures ∙ ap₂ (λ y z. noise M (y -ℤ z) (get_or ws i 0 % p M)) (round_trip (signed e i) (c.requires.first-near i)) (round_trip (signed f i) (c.requires.second-near i)))
+    (to_z-of_z w32 c.to_noise.result (record { sfits = c.to_noise.type_inv }) ∙ c.to_noise.ensures ∙ ap₂ (λ y z. noise M (y -ℤ z) (get_or ws i 0 % p M)) (round_trip (signed e i) (c.requires.first_near i)) (round_trip (signed f i) (c.requires.second_near i)))
 
 pub returns : goal.returns
 returns c n b r e =

@@ -14,7 +14,7 @@ pub loop-i-preserved : goal.loop-i-preserved
 loop-i-preserved c =
     let ws = c.args.product.now in
     placed_more (λ k y. y ≡ slip c.args.moduli (sub16 (get_or ws k 0) (get_or ws (length c.args.out.now) 0) % q c.args.moduli)) c.loop-i.out c.loop-i.i _ (pos 0) (omega arith) c.loop-i.invariant
-    (to_z-of_z w32 c.to-slip.result (record { sfits = c.to-slip.type-inv }) ∙ c.to-slip.ensures)
+    (to_z-of_z w32 c.to_slip.result (record { sfits = c.to_slip.type_inv }) ∙ c.to_slip.ensures)
 
 pub returns : goal.returns
 returns c =
