@@ -1,4 +1,6 @@
 // For a set, the cheapest set like it that is below the line: what being below it costs in bytes.
+#![tactic(auto)]
+
 ghost use Rattle.std.specs.Prelude.{◌≡◌, ℕ, ◌+◌, ◌≤◌, MatchOption};
 ghost use Rattle.params.specs.Limits.{word_bits};
 ghost use Rattle.params.specs.Sizes.{BelowLine};

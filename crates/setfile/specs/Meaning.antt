@@ -1,5 +1,5 @@
 -- What a set file means, line by line.
-use Rattle.std.specs.Prelude.{ℕ, ◌+◌, false, cond, List, [], ◌∷◌, set, replicate, is_some, Some, None, Ok, Err, codes, Option, Result, slice_index_or, slice_set}
+use Rattle.std.specs.Prelude.{ℕ, ◌+◌, false, cond, List, [], ◌∷◌, replicate, is_some, Some, None, Ok, Err, codes, Option, Result, slice_index_or, slice_set}
 use Rattle.std.specs.Option.{unwrap_or}
 use Rattle.setfile.specs.Scan.{blank, before, after, parts, says}
 use Rattle.setfile.specs.Values.{bind, number_of, no_lengths, lengths_of, mark_of}

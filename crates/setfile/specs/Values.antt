@@ -1,5 +1,5 @@
 -- The values of a set file: numbers, lists of numbers, yes and no.
-use Rattle.std.specs.Prelude.{ℕ, ◌+◌, ◌-◌, ◌*◌, Bool, true, false, cond, ◌&&◌, List, [], ◌∷◌, take, set, replicate, Ok, Err, codes, Result, nat_le, nat_lt, slice_set}
+use Rattle.std.specs.Prelude.{ℕ, ◌+◌, ◌-◌, ◌*◌, Bool, true, false, cond, ◌&&◌, List, [], ◌∷◌, take, replicate, Ok, Err, codes, Result, nat_le, nat_lt, slice_set}
 use Rattle.setfile.specs.Scan.{skipped, blank, parts, says}
 use Rattle.setfile.specs.declared.field.Lengths.{Lengths}
 use Rattle.setfile.specs.declared.fault.Wrong.{Wrong}

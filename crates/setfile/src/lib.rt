@@ -1,4 +1,6 @@
 // Set files: the text that states a parameter set, a line for each field, as `n = 10`.
+#![tactic(auto)]
+
 pub mod draft;
 pub mod fault;
 pub mod field;
