@@ -5,7 +5,9 @@ use Rattle.code.proofs.walk.next_place.Goals as goal
 
 pub returns-then-place-long : goal.returns-then-place-long
 returns-then-place-long c =
-    place_wraps c.args.code.now.shape c.args.j c.args.k (sym c.goes_by_blocks.ensures ∙ c.if-goes_by_blocks.false) c.args.place c.requires.at c.if-place-long.true
+    let code = c.args.code.now in
+    place_wraps code.shape c.args.j c.args.k (sym c.goes_by_blocks.ensures ∙ c.if-goes_by_blocks.false) c.args.place c.requires.at
+    (omega (arith, c.if-place-long.true, place_inside code.shape code.lengths code.mark c.args.j c.args.k c.requires.known c.requires.inside))
 
 pub returns-else-place-long : goal.returns-else-place-long
 returns-else-place-long c =
