@@ -1,4 +1,6 @@
 // The line to note beside a till's serial number: its set, the bound and a quarter of q, and what is promised of a parcel that nobody touched.
+#![tactic(auto)]
+
 ghost use Rattle.std.specs.Prelude.{◌≡◌, IfOk, string_bytes};
 ghost use Rattle.card.specs.Line.{spaced, mark, checks_text, code_text, ring_text, promise, bound_text, card_line};
 
