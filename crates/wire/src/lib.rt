@@ -1,4 +1,6 @@
 // Keys and parcels as bytes.
+#![tactic(auto)]
+
 mod fault;
 mod key;
 mod parcel;

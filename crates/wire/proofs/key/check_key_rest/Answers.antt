@@ -9,4 +9,4 @@ returns c =
     let rest = c.args.rest.now in
     let used = s.n * s.moduli.pb + 0 * s.moduli.tb in
     let same : used ≡ s.n * s.moduli.pb = omega (arith, zero-mul s.moduli.tb) in
-    c.check-run.ensures ∙ ap (run_form used) (between_to_end rest 32 (length rest) (omega arith)) ∙ ap (λ k. run_form k (drop 32 rest)) same
+    c.check_run.ensures ∙ ap (run_form used) (between_to_end rest 32 (length rest) (omega arith)) ∙ ap (λ k. run_form k (drop 32 rest)) same

@@ -15,10 +15,10 @@ returns c =
     let s = c.args.set.now in
     let key = c.args.key.now in
     let all = between_to_end key 1 (length key) (omega arith) in
-    let seed = c.read-key-rest.ensures.seed ∙ ap (take 32) all in
-    let fields = c.read-key-rest.ensures.fields ∙ ap (λ r. fields_at 0 s.n s.moduli.pb (drop 32 r)) all in
+    let seed = c.read_key_rest.ensures.seed ∙ ap (take 32) all in
+    let fields = c.read_key_rest.ensures.fields ∙ ap (λ r. fields_at 0 s.n s.moduli.pb (drop 32 r)) all in
     record {
       seed = seed;
       fields = fields;
-      again = key_read s key _ _ (All-from_get_or (λ x. x < 256) key 0 (λ i h. omega (arith, c.type-inv.key i))) c.requires.long c.requires.content seed fields;
+      again = key_read s key _ _ (All-from_get_or (λ x. x < 256) key 0 (λ i h. omega (arith, c.type_inv.key i))) c.requires.long c.requires.content seed fields;
     }

@@ -10,7 +10,7 @@ returns c =
     let rest = c.args.rest.now in
     let v = c.args.set.now.moduli.pb in
     record {
-      seed = c.copy-from-slice.ensures.after;
+      seed = c.copy_from_slice.ensures.after;
       fields =
           words_of (λ (x : Rounded). x.0) (λ x. record { 0 = x }) (λ x. refl) _ _ c.fields.new.xs (λ n. fields_at 0 n v (drop 32 rest)) c.requires.room
           (c.fields.ensures.first ∙ ap (λ r. map (λ (x : ℕ). record { 0 = x }) (fields_at 0 (length c.args.b.now) v r)) (between_to_end rest 32 (length rest) (omega arith)));

@@ -15,12 +15,12 @@ returns c =
     let s = c.args.set.now in
     let parcel = c.args.parcel.now in
     let all = between_to_end parcel 1 (length parcel) (omega arith) in
-    let first = c.read-parcel-rest.ensures.first ∙ ap (λ r. fields_at 0 s.n s.moduli.pb (run_of r)) all in
-    let second = c.read-parcel-rest.ensures.second ∙ ap (λ r. fields_at (s.n * s.moduli.pb) s.code.mu s.moduli.tb (run_of r)) all in
-    let tag = c.read-parcel-rest.ensures.tag ∙ ap (λ r. drop (length r - 32) r) all in
+    let first = c.read_parcel_rest.ensures.first ∙ ap (λ r. fields_at 0 s.n s.moduli.pb (run_of r)) all in
+    let second = c.read_parcel_rest.ensures.second ∙ ap (λ r. fields_at (s.n * s.moduli.pb) s.code.mu s.moduli.tb (run_of r)) all in
+    let tag = c.read_parcel_rest.ensures.tag ∙ ap (λ r. drop (length r - 32) r) all in
     record {
       first = first;
       second = second;
       tag = tag;
-      again = parcel_read s parcel _ _ _ (All-from_get_or (λ x. x < 256) parcel 0 (λ i h. omega (arith, c.type-inv.parcel i))) c.requires.long c.requires.content first second tag;
+      again = parcel_read s parcel _ _ _ (All-from_get_or (λ x. x < 256) parcel 0 (λ i h. omega (arith, c.type_inv.parcel i))) c.requires.long c.requires.content first second tag;
     }

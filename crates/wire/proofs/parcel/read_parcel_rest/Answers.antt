@@ -22,5 +22,5 @@ returns c =
           words_of (λ (x : Symbol). x.0) (λ x. record { 0 = x }) (λ x. refl) _ _ c.fields.new.ys (λ n. fields_at (n * s.moduli.pb) m s.moduli.tb run) c.requires.first
           (c.fields.ensures.second ∙ ap (λ e. map (λ (x : ℕ). record { 0 = x }) (fields_at (length c.args.u.now * s.moduli.pb) m s.moduli.tb (take e rest))) end)
           ∙ ap (λ k. fields_at (s.n * s.moduli.pb) k s.moduli.tb run) c.requires.second;
-      tag = c.copy-from-slice.ensures.after ∙ between_to_end rest (length rest - 32) (length rest) (omega arith);
+      tag = c.copy_from_slice.ensures.after ∙ between_to_end rest (length rest - 32) (length rest) (omega arith);
     }

@@ -7,6 +7,6 @@ pub returns : goal.returns
 unfolding parcel_bytes
 returns c =
     let end = length c.args.out.now - 32 in
-    put_parts 80 c.args.out.now c.pack.new.out c.copy-from-slice.new.self (end - 1) end (omega arith) (omega arith) (omega arith)
-    ∙ ap (λ l. 80 ∷ c.pack.new.out ++ l) c.copy-from-slice.ensures.after
+    put_parts 80 c.args.out.now c.pack.new.out c.copy_from_slice.new.self (end - 1) end (omega arith) (omega arith) (omega arith)
+    ∙ ap (λ l. 80 ∷ c.pack.new.out ++ l) c.copy_from_slice.ensures.after
     ∙ ap (λ l. 80 ∷ l ++ c.args.tag.now) c.pack.ensures
