@@ -1,4 +1,6 @@
 // The noise of an exchange, and when it leaves every bit as it was.
+#![tactic(auto)]
+
 ghost use Rattle.noise.specs.AnyProduct.{AnyProduct};
 ghost use Rattle.noise.specs.Laws.{ExactNoise, BoundedNoise, SafeNoise};
 ghost use Rattle.noise.specs.Worked.{Worked};
