@@ -1,6 +1,6 @@
 -- Numbers as bits, fields as runs of bits, and runs of bits as bytes.
 use Rattle.std.specs.Prelude.{ℕ, zero, suc, ◌+◌, ◌-◌, ◌*◌, ◌/◌, ◌%◌, ◌^◌, ◌<◌, List, [], ◌∷◌, ◌++◌, length, take, drop, replicate}
-use Rattle.std.specs.List.{AllByRecursion as All}
+use Rattle.std.specs.List.{AllByRecursion}
 use Rattle.params.specs.Sizes.{bytes_for}
 
 -- the w low bits of x, the most significant first
@@ -33,4 +33,4 @@ bytes bs = cut (bytes_for (length bs)) 8 (filled bs)
 
 -- each number of the list is below n
 abbrev pub Below : ℕ → List ℕ → Type 0
-Below n xs = All (λ x. x < n) xs
+Below n xs = AllByRecursion (λ x. x < n) xs

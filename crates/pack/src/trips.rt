@@ -1,6 +1,6 @@
 // The round trips: as theorems over every width, and through the calls themselves, for every sort and every set.
 ghost use Rattle.std.specs.Prelude.{◌≡◌, ◌+◌, ◌*◌, ◌^◌, ◌<◌, length, Ok, MatchResult};
-ghost use Rattle.std.specs.List.{AllByRecursion as All};
+ghost use Rattle.std.specs.List.{AllByRecursion};
 ghost use Rattle.params.specs.Sizes.{bytes_for};
 ghost use Rattle.pack.specs.Trips.{UnpacksPacked, PacksUnpacked, Worked};
 
@@ -27,7 +27,7 @@ pub fn pack_unpack<F: Field, G: Field>(
 ) -> Result<(), PackFault>
     requires room { length bytes.old ≡ bytes_for (length xs.now * F.width moduli + length ys.now * G.width moduli) }
     requires same { (length us.old ≡ length xs.now) × (length vs.old ≡ length ys.now) }
-    requires below { (All (λ x. F.bare x < 2 ^ F.width moduli) xs.now) × (All (λ y. G.bare y < 2 ^ G.width moduli) ys.now) }
+    requires below { (AllByRecursion (λ x. F.bare x < 2 ^ F.width moduli) xs.now) × (AllByRecursion (λ y. G.bare y < 2 ^ G.width moduli) ys.now) }
     ensures ok { result ≡ Ok tt }
     ensures first { us.new ≡ xs.now }
     ensures second { vs.new ≡ ys.now }

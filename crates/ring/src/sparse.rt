@@ -1,6 +1,6 @@
 // The product of a polynomial and a sparse ternary secret, once for every sort of coefficient.
 ghost use Rattle.std.specs.Prelude.{◌≡◌, ℕ, ◌+◌, ◌<◌, ◌≤◌, map, length, slice_index_or, if◌then◌else◌};
-ghost use Rattle.std.specs.List.{AllByRecursion as All};
+ghost use Rattle.std.specs.List.{AllByRecursion};
 ghost use Rattle.ring.specs.Lists.{listed};
 ghost use Rattle.ring.specs.Cyclic.{along, back, cyclic_in, Within};
 
@@ -21,9 +21,9 @@ fn run<S: Sort>(dst: &mut [S::Word], src: &[S], subtract: bool)
 fn shifted<S: Sort>(out: &mut [S::Word], poly: &[S], p: usize, subtract: bool)
     requires long { length out.old ≡ length poly.now + 1 }
     requires within { p < length poly.now }
-    requires fit { All S.Word.fits out.old }
+    requires fit { AllByRecursion S.Word.fits out.old }
     ensures each { (k : ℕ) → k < length poly.now + 1 → slice_index_or out.new k S.Word.none ≡ (if subtract then S.Word.minus else S.Word.plus) (slice_index_or out.old k S.Word.none) (slice_index_or (map S.bare poly.now) (back (length poly.now + 1) k p) S.Word.none) }
-    ensures fit { All S.Word.fits out.new }
+    ensures fit { AllByRecursion S.Word.fits out.new }
 {
     let n = poly.len();
     let all = out.len();
