@@ -1,4 +1,6 @@
 // What is told of a set: why it is refused, by a number, its values and one plain sentence; and its verdict. Likewise of a call.
+#![tactic(auto)]
+
 mod call;
 
 ghost use Rattle.std.specs.Prelude.{◌≡◌, Some};

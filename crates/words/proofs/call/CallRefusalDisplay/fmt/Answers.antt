@@ -10,7 +10,7 @@ pub returns-in-PlaceInUse-clause-writes : goal.returns-in-PlaceInUse-clause-writ
 returns-in-PlaceInUse-clause-writes g c = rw c.in-PlaceInUse.is c.write-in-PlaceInUse.ensures.writes
 
 pub returns-in-WrongBuffer-clause-writes : goal.returns-in-WrongBuffer-clause-writes
-returns-in-WrongBuffer-clause-writes g c = rw (c.in-WrongBuffer.is, ← c.number-number.ensures, ← c.buffer-sentence-sentence.ensures) c.write-in-WrongBuffer.ensures.writes
+returns-in-WrongBuffer-clause-writes g c = rw (c.in-WrongBuffer.is, ← c.number-number.ensures, ← c.buffer_sentence-sentence.ensures) c.write-in-WrongBuffer.ensures.writes
 
 pub returns-in-WrongInput-clause-writes : goal.returns-in-WrongInput-clause-writes
 returns-in-WrongInput-clause-writes g c = rw (c.in-WrongInput.is, ← c.number-number-in-WrongInput.ensures) c.write-in-WrongInput.ensures.writes
