@@ -1,4 +1,6 @@
 // The sampler: expands a seed to the public polynomial or to a secret, by values drawn from a source.
+#![tactic(auto)]
+
 ghost use Rattle.std.specs.Prelude.{◌≡◌, ◌+◌, ◌%◌, ◌^◌, ◌<◌, ◌≤◌, [], ◌∷◌, length, take, Ok, Err, MatchResult};
 ghost use Rattle.sampler.specs.Values.{values};
 ghost use Rattle.sampler.specs.Positions.{marks_room, kept, Marked};
@@ -32,8 +34,8 @@ pub struct SamplerFault {
 
 // The next value: one draw of two bytes, the low byte first.
 fn next_value<S: Source>(source: &mut S) -> Result<u16, SourceFault>
-    ensures book { book source.new ≡ book source.old }
-    ensures cases { MatchResult result (λ v. values (rest source.old) ≡ v ∷ values (rest source.new)) (λ _. values (rest source.old) ≡ []) }
+    ensures book { S.book source.new ≡ S.book source.old }
+    ensures cases { MatchResult result (λ v. values (S.rest source.old) ≡ v ∷ values (S.rest source.new)) (λ _. values (S.rest source.old) ≡ []) }
 {
     let mut pair = [0u8; 2];
     source.draw(&mut pair)?;
@@ -80,9 +82,9 @@ pub fn expand_public<S: Source>(
 ) -> Result<(), SamplerFault>
     requires width { qb ≤ 16 }
     requires range { length out.old ≤ marks_room }
-    ensures book { book source.new ≡ book source.old }
-    ensures cases { MatchResult result (λ _. expanded_public qb (length out.old) (book source.old public_label seed.now) ≡ Ok out.new) (λ e. expanded_public qb (length out.old) (book source.old public_label seed.now) ≡ Err e) }
-    ensures facts { MatchResult result (λ _. Reduced qb (length out.old) out.new) (λ e. Shortfall public_label (length out.old) (book source.old public_label seed.now) e) }
+    ensures book { S.book source.new ≡ S.book source.old }
+    ensures cases { MatchResult result (λ _. expanded_public qb (length out.old) (S.book source.old public_label seed.now) ≡ Ok out.new) (λ e. expanded_public qb (length out.old) (S.book source.old public_label seed.now) ≡ Err e) }
+    ensures facts { MatchResult result (λ _. Reduced qb (length out.old) out.new) (λ e. Shortfall public_label (length out.old) (S.book source.old public_label seed.now) e) }
 {
     source.start(PUBLIC_LABEL, seed);
     for index in 0..out.len() {
@@ -113,9 +115,9 @@ pub fn expand_secret<S: Source>(
 ) -> Result<(), SamplerFault>
     requires range { (8 ≤ n) × (n ≤ marks_room) }
     requires room { length positions.old ≤ n }
-    ensures book { book source.new ≡ book source.old }
-    ensures cases { MatchResult result (λ _. expanded_secret n (length positions.old) (book source.old secret_label seed.now) ≡ Ok positions.new) (λ e. expanded_secret n (length positions.old) (book source.old secret_label seed.now) ≡ Err e) }
-    ensures facts { MatchResult result (λ _. Picked n (length positions.old) positions.new) (λ e. Shortfall secret_label (length positions.old) (book source.old secret_label seed.now) e) }
+    ensures book { S.book source.new ≡ S.book source.old }
+    ensures cases { MatchResult result (λ _. expanded_secret n (length positions.old) (S.book source.old secret_label seed.now) ≡ Ok positions.new) (λ e. expanded_secret n (length positions.old) (S.book source.old secret_label seed.now) ≡ Err e) }
+    ensures facts { MatchResult result (λ _. Picked n (length positions.old) positions.new) (λ e. Shortfall secret_label (length positions.old) (S.book source.old secret_label seed.now) e) }
 {
     source.start(SECRET_LABEL, seed);
     let mut table = [0u8; MARKS];

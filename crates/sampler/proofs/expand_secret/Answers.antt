@@ -1,5 +1,5 @@
 -- The loop ends with h positions kept, or with no value left.
-use Rattle.std.proofs.Common.{◌≡◌, ℕ, ◌+◌, ◌*◌, ◌<◌, ◌≤◌, List, [], length, take, Ok, Err, sym, refl, ap, ◌∙◌, arith}
+use Rattle.std.proofs.Common.{◌≡◌, ℕ, ◌+◌, ◌*◌, ◌^◌, ◌<◌, ◌≤◌, List, [], length, take, Ok, Err, sym, refl, ap, ◌∙◌, arith}
 use Rattle.std.proofs.lemmas.List.{length-take-le, take_all}
 use Rattle.source.specs.declared.SourceFault.{SourceFault}
 use Rattle.sampler.specs.Values.{values}
@@ -32,12 +32,11 @@ made n h count list whole out vs r l w inv =
 pub loop-count-init : goal.loop-count-init
 loop-count-init g c = (refl, omega arith, marked_none, refl, omega arith)
 
-pub overflow-add-bytes : goal.overflow-add-bytes
-overflow-add-bytes g c =
+pub overflow_add-bytes : goal.overflow_add-bytes
+overflow_add-bytes g c =
     let i = c.loop-count.invariant in
     let span = values_span (g.S.Source.rest c.start.new.self) in
-    let size = ap length c.start.ensures.rest in
-    let fits = g.S.Source.fits c.args.source.now secret_label c.args.seed.now in
+    let size : length (g.S.Source.rest c.start.new.self) < 2 ^ 64 = rw c.start.ensures.rest (g.S.Source.fits _ _ _) in
     let value = ap length c.in-Ok.ensures.cases in
     omega arith
 

@@ -5,6 +5,6 @@ use Rattle.sampler.proofs.next_value.Goals as goal
 
 pub returns : goal.returns
 returns g c =
-    let e = c.in-ok-draw.ensures in
+    let e = c.in_ok-draw.ensures in
     let more = values_more (g.S.Source.rest c.args.source.now) e.cases.enough in
     record { book = e.book; cases = search rules }
