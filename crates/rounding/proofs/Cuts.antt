@@ -1,6 +1,6 @@
 -- Shifts, masks and words that wrap are the quotients and remainders of the definitions.
 use Rattle.std.proofs.Common.{◌≡◌, ℕ, ◌+◌, ◌-◌, ◌*◌, ◌/◌, ◌%◌, ◌^◌, ◌<◌, ◌≤◌, Bool, cond, ltb, leb, ℤ, pos, negsuc, ◌+ℤ◌, ◌-ℤ◌, nat_abs, sym, refl, ap, ◌∙◌, subst, ap₂, inl, inr, mod-lt, mul_comm, arith, pow_pos, pow_mono, pow-add, w32, SFits, to_z, of_z}
-use native.Mathlib.Nat.{mod-add-mod, add-mod-mod, div-eq_of_lt}
+use native.Mathlib.Nat.{mod-add-mod, add-mod-mod, div-eq_of_lt, div-lt_iff_lt-mul}
 use lib.Bits.{bit_and}
 use lib.Signed.{lt_z}
 use borrow.Author.Differences.{ints}
@@ -59,6 +59,12 @@ top_bit y half some lt =
           let e : y ≡ 1 * half + (y - half) = omega arith in
           ap (λ n. n / half) e ∙ div-mul-add 1 half (y - half) (omega arith) ∙ sym (ap bit (le-leb half y more))
     ]
+
+-- the highest of b low bits, whatever the number
+pub top_low : (n b mask : ℕ) → 1 ≤ b → mask ≡ 2 ^ b - 1 → bit_and n mask / 2 ^ (b - 1) < 2
+top_low n b mask le em =
+    let is : bit_and n mask ≡ n % 2 ^ b = ap (bit_and n) em ∙ and_mask n b in
+    (div-lt_iff_lt-mul {x = bit_and n mask} {y = 2} (pow_pos (b - 1))).1 (omega (arith, is, mod-lt n (pow_pos b), twice_pow b le))
 
 -- a number and its remainder modulo 2^w are congruent modulo a lower power
 low_cong : (w b x : ℕ) → b ≤ w → Congruent (2 ^ b) (pos (x % 2 ^ w)) (pos x)
