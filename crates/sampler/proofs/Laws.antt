@@ -1,6 +1,6 @@
 -- The laws of the two expansions.
 use Rattle.std.proofs.Common.{◌≡◌, ℕ, zero, suc, ◌*◌, ◌/◌, ◌^◌, ◌<◌, ◌≤◌, false, eqb, ltb, ◌≢◌, List, [], ◌∷◌, ◌++◌, take, Ok, Err, sym, subst}
-use Rattle.std.specs.List.{AllByRecursion as All}
+use Rattle.std.specs.List.{AllByRecursion}
 use Rattle.std.proofs.lemmas.Nat.{pow_pos, mod_below}
 use Rattle.std.proofs.ByRecursion.{All-push, All-take}
 use Rattle.std.proofs.lemmas.List.{length-take-le}
@@ -13,7 +13,7 @@ use Rattle.sampler.specs.Facts.{Distinct, Reduced, Picked, Shortfall}
 use Rattle.sampler.proofs.First.{first_front, first_shortfall}
 use Rattle.sampler.proofs.Table.{position_below}
 
-residues_below : (qb : ℕ) (vs : List ℕ) → All (λ a. a < 2 ^ qb) (residues qb vs)
+residues_below : (qb : ℕ) (vs : List ℕ) → AllByRecursion (λ a. a < 2 ^ qb) (residues qb vs)
 residues_below qb [] = tt
 residues_below qb (v ∷ vs) = (mod_below v (2 ^ qb) (pow_pos qb), residues_below qb vs)
 
@@ -42,7 +42,7 @@ distinct_take (suc n) (p ∷ ps) d = (All-take (λ y. p ≢ y) n ps d.0, distinc
 
 -- Positions below n, no two equal.
 record Apart (n : ℕ) (ps : List ℕ) : Type 0 where
-  below : All (λ p. p < n) ps
+  below : AllByRecursion (λ p. p < n) ps
   distinct : Distinct ps
 
 kept_apart : (n : ℕ) (ps : List ℕ) (v : ℕ) → 0 < n → n ≤ marks_room → Apart n ps → Apart n (kept n ps v)

@@ -1,6 +1,6 @@
 -- What is so of every expansion.
 use Rattle.std.specs.Prelude.{◌≡◌, ℕ, ◌+◌, ◌*◌, ◌^◌, ◌<◌, ◌≤◌, ◌≢◌, List, [], ◌∷◌, length}
-use Rattle.std.specs.List.{AllByRecursion as All}
+use Rattle.std.specs.List.{AllByRecursion}
 use Rattle.source.specs.declared.SourceFault.TheVariants.{Short}
 use Rattle.sampler.specs.declared.SamplerFault.{SamplerFault}
 use Rattle.sampler.specs.Values.{values}
@@ -8,17 +8,17 @@ use Rattle.sampler.specs.Values.{values}
 -- No number stands twice in the list.
 abbrev pub Distinct : List ℕ → Type 0
 Distinct [] = Unit {0}
-Distinct (x ∷ xs) = All (λ y. x ≢ y) xs × Distinct xs
+Distinct (x ∷ xs) = AllByRecursion (λ y. x ≢ y) xs × Distinct xs
 
 -- n coefficients modulo 2 ^ qb.
 pub record Reduced (qb n : ℕ) (coefficients : List ℕ) : Type 0 where
   pub count : length coefficients ≡ n
-  pub below : All (λ a. a < 2 ^ qb) coefficients
+  pub below : AllByRecursion (λ a. a < 2 ^ qb) coefficients
 
 -- h distinct positions below n.
 pub record Picked (n h : ℕ) (positions : List ℕ) : Type 0 where
   pub count : length positions ≡ h
-  pub below : All (λ p. p < n) positions
+  pub below : AllByRecursion (λ p. p < n) positions
   pub distinct : Distinct positions
 
 -- What the fault tells when an expansion under the label `tag` wants `room` entries and its list has too few values: the
