@@ -1,4 +1,6 @@
 // The agreement between a station and a till, as the contract of the question that a shopkeeper asks.
+#![tactic(auto)]
+
 ghost use Rattle.std.specs.Prelude.{◌≡◌, Decides};
 ghost use Rattle.params.specs.Sizes.{BelowLine};
 ghost use Rattle.agreement.specs.Agreement.{NoiseTells, NoiseBounded, Opens, NeverOut, Publishes};

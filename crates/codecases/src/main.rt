@@ -1,4 +1,6 @@
 // Runs the correcting code: every pattern of at most two flips over two small codes, and words of the code for 256 bits.
+#![tactic(auto)]
+
 mod patterns;
 mod words;
 mod worked;

@@ -1,4 +1,6 @@
 // The kit for C: each call over numbers, slices and plain structs. Every function takes any lengths, and none has a precondition.
+#![tactic(auto)]
+
 mod hash;
 mod laboratory;
 mod layout;

@@ -1,4 +1,6 @@
 // The product put together: the one place that chooses the source of station and till.
+#![tactic(auto)]
+
 ghost use Rattle.std.specs.Prelude.{◌≡◌, [], ◌++◌, Decides};
 ghost use Rattle.params.specs.Sizes.{BelowLine};
 ghost use Rattle.fetch.specs.Held.{held};

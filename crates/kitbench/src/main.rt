@@ -1,5 +1,7 @@
 // The calls of the kit on fixed inputs, for bench/kit.py; bench/scheme.c does the same in C and takes the same words.
 // `CALL SET COUNT` makes one call so many times and prints a checksum; no words run every call a few times for each set.
+#![tactic(auto)]
+
 mod listed;
 mod pair;
 

@@ -195,10 +195,10 @@ fn gauge_with<S: Source>(
     requires product { length product.old ≡ set.now.n + 1 }
     requires a { length a.old ≡ set.now.n }
     requires station { length station.old ≡ set.now.h }
-    ensures book { book source.new ≡ book source.old }
+    ensures book { S.book source.new ≡ S.book source.old }
     ensures cases { MatchResult result
-        (λ _. gauging (book source.old) set.now seeds.now ≡ Ok noise.new)
-        (λ e. (gauging (book source.old) set.now seeds.now ≡ Err e) × (noise.new ≡ noise.old)) }
+        (λ _. gauging (S.book source.old) set.now seeds.now ≡ Ok noise.new)
+        (λ e. (gauging (S.book source.old) set.now seeds.now ≡ Err e) × (noise.new ≡ noise.old)) }
 {
     let parts = seeds_from(seeds);
     expand_polynomial(set, source, &parts.sigma, product, a)?;
@@ -221,10 +221,10 @@ fn gauge_in<S: Source>(
     requires noise { length noise.old ≡ set.now.code.mu }
     requires secret { length secret.old ≡ set.now.h }
     requires product { length product.old ≡ set.now.n + 1 }
-    ensures book { book source.new ≡ book source.old }
+    ensures book { S.book source.new ≡ S.book source.old }
     ensures cases { MatchResult result
-        (λ _. gauging (book source.old) set.now seeds.now ≡ Ok noise.new)
-        (λ e. (gauging (book source.old) set.now seeds.now ≡ Err e) × (noise.new ≡ noise.old)) }
+        (λ _. gauging (S.book source.old) set.now seeds.now ≡ Ok noise.new)
+        (λ e. (gauging (S.book source.old) set.now seeds.now ≡ Err e) × (noise.new ≡ noise.old)) }
 {
     let n = set.n as usize;
     let h = set.h as usize;
@@ -252,10 +252,10 @@ fn gauge_within<S: Source>(
     secret: &mut [u16],
     product: &mut [u16],
 ) -> Result<usize, Refusal>
-    ensures book { book source.new ≡ book source.old }
+    ensures book { S.book source.new ≡ S.book source.old }
     ensures cases { MatchResult result
-        (λ count. (gauged (book source.old) set.now (length noise.old) (length secret.old) (length product.old) seeds.now ≡ Ok noise.new) × (count ≡ out_of_band set.now.moduli noise.new))
-        (λ e. (gauged (book source.old) set.now (length noise.old) (length secret.old) (length product.old) seeds.now ≡ Err e) × (noise.new ≡ noise.old)) }
+        (λ count. (gauged (S.book source.old) set.now (length noise.old) (length secret.old) (length product.old) seeds.now ≡ Ok noise.new) × (count ≡ out_of_band set.now.moduli noise.new))
+        (λ e. (gauged (S.book source.old) set.now (length noise.old) (length secret.old) (length product.old) seeds.now ≡ Err e) × (noise.new ≡ noise.old)) }
 {
     check_gauge(set, noise.len(), secret.len(), product.len(), seeds)?;
     let h = set.h as usize;
@@ -281,12 +281,12 @@ pub fn gauge<S: Source>(
     secret_area: &mut [u16],
     product_area: &mut [u16],
 ) -> Result<usize, Refusal>
-    ensures book { book source.new ≡ book source.old }
+    ensures book { S.book source.new ≡ S.book source.old }
     ensures secret_wiped { secret_area.new ≡ zeros secret_area.old }
     ensures product_wiped { product_area.new ≡ zeros product_area.old }
     ensures cases { MatchResult result
-        (λ count. (gauged (book source.old) set.now (length noise.old) (length secret_area.old) (length product_area.old) seeds.now ≡ Ok noise.new) × (count ≡ out_of_band set.now.moduli noise.new))
-        (λ e. (gauged (book source.old) set.now (length noise.old) (length secret_area.old) (length product_area.old) seeds.now ≡ Err e) × (noise.new ≡ noise.old)) }
+        (λ count. (gauged (S.book source.old) set.now (length noise.old) (length secret_area.old) (length product_area.old) seeds.now ≡ Ok noise.new) × (count ≡ out_of_band set.now.moduli noise.new))
+        (λ e. (gauged (S.book source.old) set.now (length noise.old) (length secret_area.old) (length product_area.old) seeds.now ≡ Err e) × (noise.new ≡ noise.old)) }
 {
     let secret_area = Wiped { area: secret_area };
     let product_area = Wiped { area: product_area };

@@ -1,5 +1,7 @@
 // The laboratory's calls: the raw bits that a till's secret reads from a parcel, and the noise between two secrets; and the message
 // that raw bits correct to.
+#![tactic(auto)]
+
 mod gauging;
 mod mend;
 mod read;

@@ -59,10 +59,10 @@ fn read_in<S: Source>(
     requires out { length raw.old ≡ set.now.code.mu }
     requires secret { length secret.old ≡ set.now.h }
     requires product { length product.old ≡ set.now.n + 1 }
-    ensures book { book source.new ≡ book source.old }
+    ensures book { S.book source.new ≡ S.book source.old }
     ensures cases { MatchResult result
-        (λ _. reading (book source.old) set.now seed.now parcel.now ≡ Ok raw.new)
-        (λ e. (reading (book source.old) set.now seed.now parcel.now ≡ Err e) × (raw.new ≡ raw.old)) }
+        (λ _. reading (S.book source.old) set.now seed.now parcel.now ≡ Ok raw.new)
+        (λ e. (reading (S.book source.old) set.now seed.now parcel.now ≡ Err e) × (raw.new ≡ raw.old)) }
 {
     expand_positions(set, source, seed, secret)?;
     read_parcel_bits(set, parcel, secret, product, raw);
@@ -89,9 +89,9 @@ fn read_within<S: Source>(
     secret: &mut [u16],
     product: &mut [u16],
 ) -> Result<(), Refusal>
-    ensures book { book source.new ≡ book source.old }
+    ensures book { S.book source.new ≡ S.book source.old }
     ensures cases { Answers result
-        (raw_read (book source.old) set.now (length raw.old) (length secret.old) (length product.old) parcel.now seed.now)
+        (raw_read (S.book source.old) set.now (length raw.old) (length secret.old) (length product.old) parcel.now seed.now)
         raw.new raw.old }
 {
     check_read(set, raw.len(), secret.len(), product.len(), parcel, seed)?;
@@ -120,11 +120,11 @@ pub fn raw_read<S: Source>(
     secret_area: &mut [u16],
     product_area: &mut [u16],
 ) -> Result<(), Refusal>
-    ensures book { book source.new ≡ book source.old }
+    ensures book { S.book source.new ≡ S.book source.old }
     ensures secret_wiped { secret_area.new ≡ zeros secret_area.old }
     ensures product_wiped { product_area.new ≡ zeros product_area.old }
     ensures cases { Answers result
-        (raw_read (book source.old) set.now (length raw.old) (length secret_area.old) (length product_area.old) parcel.now seed.now)
+        (raw_read (S.book source.old) set.now (length raw.old) (length secret_area.old) (length product_area.old) parcel.now seed.now)
         raw.new raw.old }
 {
     let secret_area = Wiped { area: secret_area };

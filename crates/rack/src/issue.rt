@@ -49,8 +49,8 @@ fn try_seeds<S: Source>(
     requires secret { length secret.old ≡ set.now.h }
     requires product { length product.old ≡ set.now.n + 1 }
     requires a { length a.old ≡ set.now.n }
-    ensures book { book source.new ≡ book source.old }
-    ensures answer { result ≡ expands (book source.old) set.now coins.now }
+    ensures book { S.book source.new ≡ S.book source.old }
+    ensures answer { result ≡ expands (S.book source.old) set.now coins.now }
 {
     expand_polynomial(set, source, &coins.sigma, product, a)?;
     expand_positions(set, source, &coins.seed, secret)?;
@@ -67,8 +67,8 @@ fn try_coins<S: Source>(
 ) -> Result<(), SamplerFault>
     requires secret { set.now.h ≤ length secret.old }
     requires product { set.now.n + 1 ≤ length product.old }
-    ensures book { book source.new ≡ book source.old }
-    ensures answer { result ≡ expands (book source.old) set.now coins.now }
+    ensures book { S.book source.new ≡ S.book source.old }
+    ensures answer { result ≡ expands (S.book source.old) set.now coins.now }
 {
     let n = set.n as usize;
     let mut a = [Coefficient(0); MOST];
@@ -92,9 +92,9 @@ pub(crate) fn issue_within<S: Source>(
     product: &mut [u16],
 ) -> Result<(), Refusal>
     requires { length places.old ≡ place_count }
-    ensures book { book source.new ≡ book source.old }
+    ensures book { S.book source.new ≡ S.book source.old }
     ensures cases { Answers result
-        (issued (book source.old) set.now places.old place (length secret.old) (length product.old) coins.now)
+        (issued (S.book source.old) set.now places.old place (length secret.old) (length product.old) coins.now)
         places.new places.old }
 {
     check_issue(places, place, secret.len(), product.len(), coins)?;
@@ -114,9 +114,9 @@ pub(crate) fn publish_within<S: Source>(
     product: &mut [u16],
 ) -> Result<(), Refusal>
     requires { length places.now ≡ place_count }
-    ensures book { book source.new ≡ book source.old }
+    ensures book { S.book source.new ≡ S.book source.old }
     ensures cases { Answers result
-        (published (book source.old) set.now places.now place (length key.old) (length secret.old) (length product.old))
+        (published (S.book source.old) set.now places.now place (length key.old) (length secret.old) (length product.old))
         key.new key.old }
 {
     let coins = find_coins(places, place)?;

@@ -57,10 +57,10 @@ pub(crate) fn remake_key<S: Source>(
     requires product { length product.old ≡ set.now.n + 1 }
     requires a { length a.old ≡ set.now.n }
     requires b { length b.old ≡ set.now.n }
-    ensures book { book source.new ≡ book source.old }
+    ensures book { S.book source.new ≡ S.book source.old }
     ensures cases { MatchResult result
-        (λ _. Remade (book source.old) set.now coins.now (words_q a.new) (words_p b.new) secret.new key.new)
-        (λ e. (coins_key (book source.old) set.now coins.now ≡ Err e) × (key.new ≡ key.old)) }
+        (λ _. Remade (S.book source.old) set.now coins.now (words_q a.new) (words_p b.new) secret.new key.new)
+        (λ e. (coins_key (S.book source.old) set.now coins.now ≡ Err e) × (key.new ≡ key.old)) }
 {
     expand_polynomial(set, source, &coins.sigma, product, a)?;
     expand_positions(set, source, &coins.seed, secret)?;
@@ -80,10 +80,10 @@ pub(crate) fn make_key<S: Source>(
     requires key { length key.old ≡ key_length set.now }
     requires secret { length secret.old ≡ set.now.h }
     requires product { length product.old ≡ set.now.n + 1 }
-    ensures book { book source.new ≡ book source.old }
+    ensures book { S.book source.new ≡ S.book source.old }
     ensures cases { MatchResult result
-        (λ _. coins_key (book source.old) set.now coins.now ≡ Ok key.new)
-        (λ e. (coins_key (book source.old) set.now coins.now ≡ Err e) × (key.new ≡ key.old)) }
+        (λ _. coins_key (S.book source.old) set.now coins.now ≡ Ok key.new)
+        (λ e. (coins_key (S.book source.old) set.now coins.now ≡ Err e) × (key.new ≡ key.old)) }
 {
     let n = set.n as usize;
     let mut a = [Coefficient(0); MOST];

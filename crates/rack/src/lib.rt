@@ -1,4 +1,6 @@
 // A till's rack of four places, and its calls: issue, publish, open, retire.
+#![tactic(auto)]
+
 mod coins;
 mod issue;
 mod keys;

@@ -117,10 +117,10 @@ fn open_with<S: Source>(
     requires key { length key.old ≡ key_length set.now }
     requires message { length message.old ≡ set.now.code.shape.kappa / 8 }
     requires again { length again.old ≡ parcel_length set.now }
-    ensures book { book source.new ≡ book source.old }
+    ensures book { S.book source.new ≡ S.book source.old }
     ensures cases { MatchResult result
-        (λ _. opening (book source.old) set.now coins.now parcel.now ≡ Ok out.new)
-        (λ e. (opening (book source.old) set.now coins.now parcel.now ≡ Err e) × (out.new ≡ out.old)) }
+        (λ _. opening (S.book source.old) set.now coins.now parcel.now ≡ Ok out.new)
+        (λ e. (opening (S.book source.old) set.now coins.now parcel.now ≡ Err e) × (out.new ≡ out.old)) }
 {
     remake_key(set, source, coins, key, secret, product, a, b)?;
     find_message(set, parcel, secret, product, message);
@@ -144,10 +144,10 @@ fn open_in<S: Source>(
     requires out { length out.old ≡ 32 }
     requires secret { length secret.old ≡ set.now.h }
     requires product { length product.old ≡ set.now.n + 1 }
-    ensures book { book source.new ≡ book source.old }
+    ensures book { S.book source.new ≡ S.book source.old }
     ensures cases { MatchResult result
-        (λ _. opening (book source.old) set.now coins.now parcel.now ≡ Ok out.new)
-        (λ e. (opening (book source.old) set.now coins.now parcel.now ≡ Err e) × (out.new ≡ out.old)) }
+        (λ _. opening (S.book source.old) set.now coins.now parcel.now ≡ Ok out.new)
+        (λ e. (opening (S.book source.old) set.now coins.now parcel.now ≡ Err e) × (out.new ≡ out.old)) }
 {
     let n = set.n as usize;
     let key_len = key_room(set);
@@ -206,9 +206,9 @@ pub(crate) fn open_within<S: Source>(
     product: &mut [u16],
 ) -> Result<(), Refusal>
     requires { length places.now ≡ place_count }
-    ensures book { book source.new ≡ book source.old }
+    ensures book { S.book source.new ≡ S.book source.old }
     ensures cases { Answers result
-        (opened (book source.old) set.now places.now place (length out.old) (length secret.old) (length product.old) parcel.now)
+        (opened (S.book source.old) set.now places.now place (length out.old) (length secret.old) (length product.old) parcel.now)
         out.new out.old }
 {
     let coins = find_coins(places, place)?;

@@ -67,11 +67,11 @@ impl<S: Source> Rack<S> {
         secret_area: &mut [u16],
         product_area: &mut [u16],
     ) -> Result<(), Refusal>
-        ensures kept { (self.new.set ≡ self.old.set) × (book self.new.source ≡ book self.old.source) }
+        ensures kept { (self.new.set ≡ self.old.set) × (S.book self.new.source ≡ S.book self.old.source) }
         ensures secret_wiped { secret_area.new ≡ zeros secret_area.old }
         ensures product_wiped { product_area.new ≡ zeros product_area.old }
         ensures cases { Answers result
-            (issued (book self.old.source) self.old.set self.old.places place (length secret_area.old) (length product_area.old) coins.now)
+            (issued (S.book self.old.source) self.old.set self.old.places place (length secret_area.old) (length product_area.old) coins.now)
             self.new.places self.old.places }
     {
         let secret_area = Wiped { area: secret_area };
@@ -95,12 +95,12 @@ impl<S: Source> Rack<S> {
         secret_area: &mut [u16],
         product_area: &mut [u16],
     ) -> Result<(), Refusal>
-        ensures kept { (self.new.set ≡ self.old.set) × (book self.new.source ≡ book self.old.source) }
+        ensures kept { (self.new.set ≡ self.old.set) × (S.book self.new.source ≡ S.book self.old.source) }
         ensures places { self.new.places ≡ self.old.places }
         ensures secret_wiped { secret_area.new ≡ zeros secret_area.old }
         ensures product_wiped { product_area.new ≡ zeros product_area.old }
         ensures cases { Answers result
-            (published (book self.old.source) self.old.set self.old.places place (length key.old) (length secret_area.old) (length product_area.old))
+            (published (S.book self.old.source) self.old.set self.old.places place (length key.old) (length secret_area.old) (length product_area.old))
             key.new key.old }
     {
         let secret_area = Wiped { area: secret_area };
@@ -125,12 +125,12 @@ impl<S: Source> Rack<S> {
         secret_area: &mut [u16],
         product_area: &mut [u16],
     ) -> Result<(), Refusal>
-        ensures kept { (self.new.set ≡ self.old.set) × (book self.new.source ≡ book self.old.source) }
+        ensures kept { (self.new.set ≡ self.old.set) × (S.book self.new.source ≡ S.book self.old.source) }
         ensures places { self.new.places ≡ self.old.places }
         ensures secret_wiped { secret_area.new ≡ zeros secret_area.old }
         ensures product_wiped { product_area.new ≡ zeros product_area.old }
         ensures cases { Answers result
-            (opened (book self.old.source) self.old.set self.old.places place (length secret_out.old) (length secret_area.old) (length product_area.old) parcel.now)
+            (opened (S.book self.old.source) self.old.set self.old.places place (length secret_out.old) (length secret_area.old) (length product_area.old) parcel.now)
             secret_out.new secret_out.old }
     {
         let secret_area = Wiped { area: secret_area };

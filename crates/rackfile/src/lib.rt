@@ -1,4 +1,6 @@
 // Rack files: the numbers of a parameter set and the places of a till's rack, as bytes.
+#![tactic(auto)]
+
 mod bytes;
 mod fault;
 mod image;

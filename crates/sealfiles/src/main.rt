@@ -1,4 +1,6 @@
 // The kit on files: sets, racks, keys, parcels and secrets; and what a parameter set promises by its numbers alone.
+#![tactic(auto)]
+
 mod commands;
 mod files;
 mod journey;

@@ -1,4 +1,6 @@
 // What a parameter set promises by its numbers alone.
+#![tactic(auto)]
+
 mod listed;
 mod report;
 mod stop;

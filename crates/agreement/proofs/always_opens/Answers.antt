@@ -9,7 +9,7 @@ returns g c =
     let B = g.K.Source.book c.args.rack.now.source in
     let s = c.args.rack.now.set in
     record {
-      verdict = c.is-below-line.ensures;
+      verdict = c.is_below_line.ensures;
       noise_tells = noise_tells C B s;
       noise_bounded = noise_bounded B s;
       opens = opens C B s;

@@ -3,7 +3,7 @@ use Rattle.kit.proofs.always_opens.Goals as goal
 
 pub returns : goal.returns
 returns c =
-    let a = c.always-opens.ensures in
+    let a = c.always_opens.ensures in
     record {
       verdict = a.verdict;
       noise_tells = a.noise_tells refl;

@@ -5,18 +5,18 @@ use Rattle.keyseal.proofs.laboratory.keyseal_raw_read.Goals as goal
 
 pub returns-in-Ok : goal.returns-in-Ok
 returns-in-Ok c =
-    let done = c.raw-read-outcome.ensures in
+    let done = c.raw_read-outcome.ensures in
     record {
       secret-wiped = done.secret-wiped;
       product-wiped = done.product-wiped;
-      answer = exported c.in-Ok.set c.raw-read-outcome.result c.in-Ok.ensures (rw c.bytes-from.ensures at done.cases) c.tell.ensures;
+      answer = exported c.in-Ok.set c.raw_read-outcome.result c.in-Ok.ensures (rw c.bytes_from.ensures at done.cases) c.tell.ensures;
     }
 
 pub returns-in-Err : goal.returns-in-Err
 returns-in-Err c =
     let told = c.in-Err.ensures in
     record {
-      secret-wiped = c.refuse.ensures.secret-wiped;
-      product-wiped = c.refuse.ensures.product-wiped;
+      secret-wiped = c.refuse.ensures.secret_wiped;
+      product-wiped = c.refuse.ensures.product_wiped;
       answer = no_set c.in-Err.fault told.0 told.1 c.refuse.ensures.says (refl {a = c.args.raw.now});
     }

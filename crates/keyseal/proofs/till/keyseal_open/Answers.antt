@@ -5,7 +5,7 @@ use Rattle.keyseal.proofs.till.keyseal_open.Goals as goal
 
 pub returns-in-Ok : goal.returns-in-Ok
 returns-in-Ok c =
-    let rack = c.rack-from-rack.ensures in
+    let rack = c.rack_from-rack.ensures in
     let done = c.open-outcome.ensures in
     record {
       secret-wiped = done.secret-wiped;
@@ -17,7 +17,7 @@ pub returns-in-Err : goal.returns-in-Err
 returns-in-Err c =
     let told = c.in-Err.ensures in
     record {
-      secret-wiped = c.refuse.ensures.secret-wiped;
-      product-wiped = c.refuse.ensures.product-wiped;
+      secret-wiped = c.refuse.ensures.secret_wiped;
+      product-wiped = c.refuse.ensures.product_wiped;
       answer = no_set c.in-Err.fault told.0 told.1 c.refuse.ensures.says (refl {a = c.args.secret.now});
     }

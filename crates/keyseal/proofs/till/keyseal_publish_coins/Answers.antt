@@ -2,7 +2,7 @@ use Rattle.keyseal.proofs.till.keyseal_publish_coins.Goals as goal
 
 pub returns : goal.returns
 returns c =
-    let done = c.keyseal-publish.ensures in
+    let done = c.keyseal_publish.ensures in
     record {
       secret-wiped = done.secret-wiped;
       product-wiped = done.product-wiped;

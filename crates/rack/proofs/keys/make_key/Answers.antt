@@ -4,6 +4,6 @@ use Rattle.rack.proofs.keys.make_key.Goals as goal
 
 pub returns : goal.returns
 returns g c = record {
-  book = c.remake-key.ensures.book;
-  cases = MatchResult-weaker c.remake-key.result c.remake-key.ensures.cases (λ _ made. remade_key _ _ _ _ _ _ _ made) (λ _ e. e);
+  book = c.remake_key.ensures.book;
+  cases = MatchResult-weaker c.remake_key.result c.remake_key.ensures.cases (λ _ made. remade_key _ _ _ _ _ _ _ made) (λ _ e. e);
 }

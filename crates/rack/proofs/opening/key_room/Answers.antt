@@ -5,4 +5,4 @@ use Rattle.rack.proofs.opening.key_room.Goals as goal
 pub returns : goal.returns
 returns c =
     let s = c.args.set.now in
-    record { long = c.key-len.ensures; room = omega (arith, c.key-len.ensures, key_room s.n s.moduli.pb (omega arith) (omega arith)) }
+    record { long = c.key_len.ensures; room = omega (arith, c.key_len.ensures, key_room s.n s.moduli.pb (omega arith) (omega arith)) }

@@ -6,6 +6,6 @@ pub returns : goal.returns
 returns c =
     let s = c.args.set.now in
     record {
-      long = c.parcel-len.ensures;
-      room = omega (arith, c.parcel-len.ensures, parcel_room s.n s.moduli.pb s.code.mu s.moduli.tb (omega arith) (omega arith) (omega arith) (omega arith));
+      long = c.parcel_len.ensures;
+      room = omega (arith, c.parcel_len.ensures, parcel_room s.n s.moduli.pb s.code.mu s.moduli.tb (omega arith) (omega arith) (omega arith) (omega arith));
     }

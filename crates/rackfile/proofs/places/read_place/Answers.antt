@@ -5,4 +5,4 @@ use Rattle.rack.specs.declared.record.Record.TheVariants.{Held}
 use Rattle.rackfile.proofs.places.read_place.Goals as goal
 
 pub returns-else-bytes-eq0 : goal.returns-else-bytes-eq0
-returns-else-bytes-eq0 c = rw (ne_eqb _ 0 c.if-bytes-eq0.false) (ap (λ (d : Coins). Held d) c.read-coins.ensures)
+returns-else-bytes-eq0 c = rw (ne_eqb _ 0 c.if-bytes-eq0.false) (ap (λ (d : Coins). Held d) c.read_coins.ensures)

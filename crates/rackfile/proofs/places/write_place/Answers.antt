@@ -9,6 +9,6 @@ returns-in-Empty c = rw c.in-Empty.is (record { bytes = c.fill.ensures.after (λ
 
 pub returns-in-Held : goal.returns-in-Held
 returns-in-Held c = rw c.in-Held.is (record {
-  bytes = byte_before c.args.out.now _ _ 1 96 (omega arith) (omega arith) c.write-coins.ensures.bytes;
-  whole = c.write-coins.ensures.whole;
+  bytes = byte_before c.args.out.now _ _ 1 96 (omega arith) (omega arith) c.write_coins.ensures.bytes;
+  whole = c.write_coins.ensures.whole;
 })

@@ -5,6 +5,6 @@ use Rattle.rackfile.proofs.writing.encode.Goals as goal
 
 pub returns : goal.returns
 returns c = record {
-  bytes = c.write-file.ensures.bytes;
-  read_back = ap decoded c.write-file.ensures.bytes ∙ there c.args.image.now c.write-file.ensures.whole;
+  bytes = c.write_file.ensures.bytes;
+  read_back = ap decoded c.write_file.ensures.bytes ∙ there c.args.image.now c.write_file.ensures.whole;
 }

@@ -7,6 +7,6 @@ use Rattle.rackfile.proofs.writing.write_numbers.Goals as goal
 pub returns : goal.returns
 returns c = record {
   bytes = byte_between c.args.out.now _ _ (word_bytes (scalars c.args.numbers.now)) (word_bytes c.args.numbers.now.lengths) _ _ 14 20 15 (omega arith) (omega arith) (omega arith) (omega arith)
-      c.write-words.ensures c.mark.ensures c.write-words-2.ensures;
+      c.write_words.ensures c.mark.ensures c.write_words-2.ensures;
   whole = omega arith;
 }

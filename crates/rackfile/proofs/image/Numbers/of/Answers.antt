@@ -5,6 +5,6 @@ use Rattle.rackfile.proofs.image.Numbers.of.Goals as goal
 
 pub returns : goal.returns
 returns c = record {
-  value = c.numbers-in.ensures;
-  lawful = subst LawfulNumbers (sym c.numbers-in.ensures) (lawful_numbers c.args.set.now);
+  value = c.numbers_in.ensures;
+  lawful = subst LawfulNumbers (sym c.numbers_in.ensures) (lawful_numbers c.args.set.now);
 }
