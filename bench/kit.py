@@ -1,7 +1,7 @@
 #!/usr/bin/env python3
 """Compares the kit's calls with plain C in one run: first that both write the same, then how long each call takes, by turns.
 
-Usage: bench/kit.py [turns]    after `rt check kitbench`; run it on a quiet machine. A C compiler is needed (gcc).
+Usage: bench/kit.py [turns]    after `rt run` in crates/kitbench; run it on a quiet machine. A C compiler is needed (gcc).
 bench/scheme.c is the same scheme in C with a SHAKE256 of its own, so equal checksums also test the one against the other. It is not blind: the
 order of steps in seal, open and gauge, and the methods of product and packer, were known to its author.
 """
@@ -12,7 +12,7 @@ import tempfile
 import time
 
 ROOT = pathlib.Path(__file__).resolve().parent.parent
-PROGRAM = ROOT / "target" / "bin" / "kitbench"
+PROGRAM = ROOT / "crates" / "kitbench" / "out" / "kitbench"
 SOURCE = ROOT / "bench" / "scheme.c"
 # The instruction set of the toolchain's own programs.
 COMPILE = ["gcc", "-std=c11", "-O3", "-march=x86-64", "-Wall", "-Wextra"]

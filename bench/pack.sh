@@ -1,9 +1,9 @@
 #!/bin/sh
 # Times packing and unpacking of 1200 fields of 11 bits, 200,000 times, by the program packbench and by bench/pack.c.
-# Both are to write the same sums. Run `rt check packbench` first; a C compiler is needed (CC, or cc).
+# Both are to write the same sums. Run `rt run` in crates/packbench first; a C compiler is needed (CC, or cc).
 set -eu
 here=$(dirname "$0")
-rattle=$here/../target/bin/packbench
+rattle=$here/../crates/packbench/out/packbench
 work=$(mktemp -d)
 trap 'rm -r "$work"' EXIT
 "${CC:-cc}" -O3 -o "$work/pack" "$here/pack.c"

@@ -1,12 +1,12 @@
 #!/usr/bin/env bash
 # Compares the product with the same algorithm in C (gcc -O3, the same instruction set): alternating runs, the best of each, and their ratio.
-# First: rt check productbench.
+# First: rt run in crates/productbench.
 set -eu
 cd "$(dirname "$0")/.."
 c=$(mktemp)
 trap 'rm -f "$c"' EXIT
 gcc -O3 -march=x86-64 -o "$c" bench/product.c
-python3 - target/bin/productbench "$c" <<'PY'
+python3 - crates/productbench/out/productbench "$c" <<'PY'
 import subprocess, sys, time
 ours, theirs = sys.argv[1:3]
 def seconds(path):

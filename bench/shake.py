@@ -1,7 +1,7 @@
 #!/usr/bin/env python3
 """Times this repository's SHAKE256 against Python's hashlib in one run, 64 MiB in and 64 MiB out, by turns.
 
-Usage: bench/shake.py [turns]    after `rt check hashbench`; run it on a quiet machine.
+Usage: bench/shake.py [turns]    after `rt run` in crates/hashbench; run it on a quiet machine.
 Ours is the whole run of the program, its start included. hashlib's output comes as 1024 digests of 64 KiB, so that it writes to memory in use,
 as the program does, and not to 64 MiB of fresh memory.
 """
@@ -13,7 +13,7 @@ import time
 
 BLOCK = 65536
 BLOCKS = 1024
-PROGRAM = pathlib.Path(__file__).resolve().parent.parent / "target" / "bin" / "hashbench"
+PROGRAM = pathlib.Path(__file__).resolve().parent.parent / "crates" / "hashbench" / "out" / "hashbench"
 LIMIT = 1.3
 
 
