@@ -21,6 +21,7 @@ use crate::texts::HELP;
 use kit::{KitIsSource, new_source};
 use source::{Source, Tape};
 use std::env;
+use std::process::ExitCode;
 use std::rt::Env;
 
 // The commands that expand seeds, with the source that they draw from.
@@ -105,12 +106,12 @@ fn run(rt: &HostRuntime) -> Result<(), Stop> {
     }
 }
 
-fn main(rt: HostRuntime) -> Result<(), Stop> {
+fn main(rt: HostRuntime) -> ExitCode {
     match run(&rt) {
-        Ok(()) => Ok(()),
+        Ok(()) => ExitCode::SUCCESS,
         Err(e) => {
             let _ = eprintln!(rt; "{e}");
-            Err(e)
+            ExitCode::FAILURE
         }
     }
 }

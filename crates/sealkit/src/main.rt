@@ -9,6 +9,7 @@ use crate::report::{Part, print_part, print_refusals, print_table};
 use crate::stop::Stop;
 use params::set::Set;
 use setfile::file::read_set;
+use std::process::ExitCode;
 use std::rt::{Env, Files};
 use std::{env, fs};
 use words::Refusal;
@@ -126,12 +127,12 @@ fn run(rt: &HostRuntime) -> Result<(), Stop> {
     }
 }
 
-fn main(rt: HostRuntime) -> Result<(), Stop> {
+fn main(rt: HostRuntime) -> ExitCode {
     match run(&rt) {
-        Ok(()) => Ok(()),
+        Ok(()) => ExitCode::SUCCESS,
         Err(e) => {
             let _ = eprintln!(rt; "{e}");
-            Err(e)
+            ExitCode::FAILURE
         }
     }
 }
