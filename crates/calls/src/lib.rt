@@ -1,4 +1,6 @@
 // What every call of the kit shares: its refusals and their numbers, the tests of lengths, and the guard that leaves a working area all zeros.
+#![tactic(auto)]
+
 mod areas;
 mod checks;
 mod numbers;
