@@ -1,5 +1,5 @@
 -- What both ends compute: the values that seeds expand to, keys, and parcels.
-use Rattle.std.specs.Prelude.{ℕ, List, [], ◌∷◌, ◌++◌, take, drop, Ok, Err, Result}
+use Rattle.std.specs.Prelude.{ℕ, List, ◌∷◌, ◌++◌, take, drop, Ok, Result}
 use Rattle.params.specs.declared.set.Set.{Set}
 use Rattle.sampler.specs.declared.SamplerFault.{SamplerFault}
 use Rattle.sampler.specs.Expanded.{expanded_public, expanded_secret, public_label, secret_label}

@@ -30,8 +30,8 @@ pub fn expand_polynomial<S: Source>(
 ) -> Result<(), SamplerFault>
     requires room { length product.old ≡ set.now.n + 1 }
     requires out { length out.old ≡ set.now.n }
-    ensures book { book source.new ≡ book source.old }
-    ensures cases { MatchResult result (λ _. public_polynomial (book source.old) set.now seed.now ≡ Ok (words_q out.new)) (λ e. public_polynomial (book source.old) set.now seed.now ≡ Err e) }
+    ensures book { S.book source.new ≡ S.book source.old }
+    ensures cases { MatchResult result (λ _. public_polynomial (S.book source.old) set.now seed.now ≡ Ok (words_q out.new)) (λ e. public_polynomial (S.book source.old) set.now seed.now ≡ Err e) }
 {
     let n = set.n as usize;
     let words = &mut product[0..n];
@@ -48,8 +48,8 @@ pub fn expand_positions<S: Source>(
     positions: &mut [u16],
 ) -> Result<(), SamplerFault>
     requires { length positions.old ≡ set.now.h }
-    ensures book { book source.new ≡ book source.old }
-    ensures cases { MatchResult result (λ _. secret_positions (book source.old) set.now seed.now ≡ Ok positions.new) (λ e. secret_positions (book source.old) set.now seed.now ≡ Err e) }
+    ensures book { S.book source.new ≡ S.book source.old }
+    ensures cases { MatchResult result (λ _. secret_positions (S.book source.old) set.now seed.now ≡ Ok positions.new) (λ e. secret_positions (S.book source.old) set.now seed.now ≡ Err e) }
     ensures within { OnOk result (Within set.now.n positions.new) }
 {
     expand_secret(source, seed, set.n, positions)

@@ -1,5 +1,7 @@
 // What both ends of the kit compute: seeds expanded, keys, parcels, raw bits and the hashes that bind them. Every function here is for the
 // calls above, which have tested all lengths.
+#![tactic(auto)]
+
 mod decrypt;
 mod expand;
 mod hashes;

@@ -105,10 +105,10 @@ pub fn encrypt<S: Source>(
     requires parcel { length parcel.old ≡ parcel_length set.now }
     requires secret { length secret.old ≡ set.now.h }
     requires room { length product.old ≡ set.now.n + 1 }
-    ensures book { book source.new ≡ book source.old }
+    ensures book { S.book source.new ≡ S.book source.old }
     ensures cases { MatchResult result
-        (λ l. (encrypted (book source.old) set.now (words_q a.now) (words_p b.now) key.now message.now ≡ Ok parcel.new) × (l ≡ l_of message.now key.now))
-        (λ e. (encrypted (book source.old) set.now (words_q a.now) (words_p b.now) key.now message.now ≡ Err e) × (parcel.new ≡ parcel.old)) }
+        (λ l. (encrypted (S.book source.old) set.now (words_q a.now) (words_p b.now) key.now message.now ≡ Ok parcel.new) × (l ≡ l_of message.now key.now))
+        (λ e. (encrypted (S.book source.old) set.now (words_q a.now) (words_p b.now) key.now message.now ≡ Err e) × (parcel.new ≡ parcel.old)) }
 {
     let sealing = sealing_of(message, key);
     expand_positions(set, source, &sealing.seed, secret)?;

@@ -7,10 +7,10 @@ pub returns : goal.returns
 returns g c =
     let s = c.args.set.now in
     let list = g.S.Source.book c.args.source.now secret_label c.args.seed.now in
-    let r = c.expand-secret.result in
-    let out = c.expand-secret.new.positions in
+    let r = c.expand_secret.result in
+    let out = c.expand_secret.new.positions in
     record {
-      book = c.expand-secret.ensures.book;
-      cases = subst (λ (h : ℕ). MatchResult r (λ _. expanded_secret s.n h list ≡ Ok out) (λ e. expanded_secret s.n h list ≡ Err e)) c.requires c.expand-secret.ensures.cases;
-      within = picked_within s.n _ out r _ c.expand-secret.ensures.facts;
+      book = c.expand_secret.ensures.book;
+      cases = subst (λ (h : ℕ). MatchResult r (λ _. expanded_secret s.n h list ≡ Ok out) (λ e. expanded_secret s.n h list ≡ Err e)) c.requires c.expand_secret.ensures.cases;
+      within = picked_within s.n _ out r _ c.expand_secret.ensures.facts;
     }

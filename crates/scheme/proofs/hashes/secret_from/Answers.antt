@@ -5,4 +5,4 @@ use Rattle.scheme.proofs.hashes.secret_from.Goals as goal
 
 pub returns : goal.returns
 unfolding secret_from
-returns c = c.hash-pair.ensures ∙ ap (λ (k : ℕ). shake256 (0x11 ∷ (c.args.l.now ++ c.args.parcel.now)) k) c.requires
+returns c = c.hash_pair.ensures ∙ ap (λ (k : ℕ). shake256 (0x11 ∷ (c.args.l.now ++ c.args.parcel.now)) k) c.requires
