@@ -18,14 +18,14 @@ count() { # NAME STATUS
     fi
 }
 
-rm -f target/staticlib/libkeyseal.a "$out/example" "$out/example.stdout"
-rt staticlib keyseal >"$out/staticlib.log" 2>&1
+rm -f crates/keyseal/out/libkeyseal.a "$out/example" "$out/example.stdout"
+(cd crates/keyseal && rt lib) >"$out/staticlib.log" 2>&1
 status=$?
 [ "$status" -eq 0 ] || tail -n 20 "$out/staticlib.log"
 count "library proved and built" "$status"
 
 # No archive but the library itself: nothing in it allocates.
-cc -std=c11 -Wall -Wextra -Werror -O2 -I clib/include clib/example.c target/staticlib/libkeyseal.a -o "$out/example"
+cc -std=c11 -Wall -Wextra -Werror -O2 -I clib/include clib/example.c crates/keyseal/out/libkeyseal.a -o "$out/example"
 count "example compiled" $?
 
 "$out/example" >"$out/example.stdout" && diff clib/example.stdout "$out/example.stdout"

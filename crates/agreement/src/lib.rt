@@ -19,11 +19,11 @@ fn is_below_line<K: Source>(rack: &Rack<K>) -> bool
 /// retired. Its contract is the agreement, for any two sources with equal books, one at the station and one at the till.
 pub fn always_opens<T: Source, K: Source>(station: &T, rack: &Rack<K>) -> bool
     ensures verdict { Decides result (BelowLine rack.now.set) }
-    ensures noise_tells { T.Source.book station.now ≡ K.Source.book rack.now.source → NoiseTells (T.Source.book station.now) (K.Source.book rack.now.source) rack.now.set }
-    ensures noise_bounded { NoiseBounded (K.Source.book rack.now.source) rack.now.set }
-    ensures opens { T.Source.book station.now ≡ K.Source.book rack.now.source → Opens (T.Source.book station.now) (K.Source.book rack.now.source) rack.now.set }
-    ensures never_out { NeverOut (K.Source.book rack.now.source) rack.now.set }
-    ensures publishes { Publishes (K.Source.book rack.now.source) rack.now.set }
+    ensures noise_tells { T.book station.now ≡ K.book rack.now.source → NoiseTells (T.book station.now) (K.book rack.now.source) rack.now.set }
+    ensures noise_bounded { NoiseBounded (K.book rack.now.source) rack.now.set }
+    ensures opens { T.book station.now ≡ K.book rack.now.source → Opens (T.book station.now) (K.book rack.now.source) rack.now.set }
+    ensures never_out { NeverOut (K.book rack.now.source) rack.now.set }
+    ensures publishes { Publishes (K.book rack.now.source) rack.now.set }
 {
     is_below_line(rack)
 }
