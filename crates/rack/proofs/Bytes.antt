@@ -1,5 +1,5 @@
 -- Comparing and choosing bytes without a branch.
-use Rattle.std.proofs.Common.{◌≡◌, ℕ, ◌+◌, ◌*◌, ◌%◌, ◌^◌, ◌<◌, ◌≤◌, Bool, true, false, cond, ◌&&◌, eqb, List, [], ◌∷◌, length, get_or, drop, sym, refl, ap, ◌∙◌, inl, inr, mod-eq_of_lt, add-one, arith, drop-cons}
+use Rattle.std.proofs.Common.{◌≡◌, ℕ, ◌+◌, ◌*◌, ◌<◌, ◌≤◌, Bool, true, false, cond, ◌&&◌, eqb, List, [], length, get_or, drop, sym, refl, ap, ◌∙◌, inl, inr, mod-eq_of_lt, add-one, arith, drop-cons}
 use lib.Bits.{bit_and, bit_or, bit_xor, and_zero_l, and_comm, and_mask, and_le_r, or_zero_l, xor_zero_l, xor_zero_r, xor_self, xor_assoc, xor_lt, or_add_and}
 use Rattle.std.proofs.lemmas.List.{drop_all, ext_get_or}
 use Rattle.std.proofs.lemmas.Bool.{cases_eq, eq-eqb, ne_eqb}

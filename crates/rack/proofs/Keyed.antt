@@ -1,8 +1,7 @@
 -- A key that was made anew is the key of the coins.
-use Rattle.std.proofs.Common.{◌≡◌, ℕ, List, Ok, sym, refl, ap, ◌∙◌}
+use Rattle.std.proofs.Common.{◌≡◌, ℕ, List, Ok, sym, ap}
 use Rattle.params.specs.declared.set.Set.{Set}
-use Rattle.calls.specs.Chains.{Book, bind}
-use Rattle.scheme.specs.Scheme.{secret_positions, key_from}
+use Rattle.calls.specs.Chains.{Book}
 use Rattle.rack.specs.declared.record.Coins.{Coins}
 use Rattle.rack.specs.Calls.{coins_key}
 use Rattle.rack.specs.Made.{Remade}
