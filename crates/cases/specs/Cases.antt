@@ -1,5 +1,5 @@
 -- The worked cases. Set T: n 10, h 2, qb 8, pb 6, tb 3, κ 8, f 0; so q 256, p 64, t 8, h1 2, h2 18.
-use Rattle.std.specs.Prelude.{◌≡◌, ℕ, true, false, List, [], ◌∷◌, length, ℤ, pos, negsuc, Ok, Err}
+use Rattle.std.specs.Prelude.{◌≡◌, ℕ, true, false, List, [], ◌∷◌, pos, negsuc, Ok, Err}
 use Rattle.source.specs.declared.SourceFault.TheVariants as Source
 use Rattle.params.specs.Checks.{SharesTwo}
 use Rattle.params.specs.declared.shape.Shape.{Shape}
@@ -16,12 +16,12 @@ use Rattle.noise.specs.Ends.{station_cross, till_cross, raw_read}
 use Rattle.noise.specs.Worked.{worked_polynomial, worked_till, worked_station, worked_bits, worked_noise}
 use Rattle.pack.specs.Packing.{packed}
 use Rattle.pack.specs.Trips.{worked_u, worked_v, worked_bytes}
-use Rattle.code.specs.Words.{code_word, payload}
+use Rattle.code.specs.Words.{code_word}
 use Rattle.code.specs.Correcting.{corrected_message}
 use Rattle.calls.specs.Areas.{area_words}
 use Rattle.calls.specs.Chains.{Book}
 use Rattle.calls.specs.declared.refusal.Refusal.TheVariants.{Short}
-use Rattle.lab.specs.Lab.{read_checks, raw_read as raw-read-answer}
+use Rattle.lab.specs.Lab.{read_checks, raw_read as raw_read_answer}
 
 -- bytes that a secret of T expands from: the first value is too large, the third finds its position taken
 abbrev pub secret_bytes : List ℕ
@@ -55,7 +55,7 @@ pub record WorkedCases : Type 0 where
   -- a raw read over the short tape is refused with 17: label 2, entry 1, bytes 6
   pub runs_short : (s : Set) (parcel seed : List ℕ) → s.n ≡ 10 → s.h ≡ 2
       → read_checks s s.code.mu area_words area_words parcel seed ≡ Ok tt
-      → raw-read-answer short_tape s s.code.mu area_words area_words parcel seed
+      → raw_read_answer short_tape s s.code.mu area_words area_words parcel seed
       ≡ Err (Short (record { source = Source.Short; label = 2; entry = 1; bytes = 6 }))
   -- a = 3, 1, then zeros, times that secret: 3, 1, seven zeros, -3, -1; reduced 4, 2, seven ones, -2; rounded 1, 1, then zeros
   pub cyclic_product : listed 11 worked_cyclic ≡ pos 3 ∷ pos 1 ∷ pos 0 ∷ pos 0 ∷ pos 0 ∷ pos 0 ∷ pos 0 ∷ pos 0 ∷ pos 0 ∷ negsuc 2 ∷ negsuc 0 ∷ []

@@ -1,10 +1,10 @@
 -- What the laboratory's calls answer: raw read and gauge.
-use Rattle.std.specs.Prelude.{◌≡◌, ℕ, ◌/◌, List, length, take, drop, ℤ, Ok, Err, Result}
+use Rattle.std.specs.Prelude.{◌≡◌, ℕ, ◌/◌, List, length, take, drop, ℤ, Ok, Result}
 use Rattle.params.specs.Sizes.{parcel_length}
 use Rattle.params.specs.declared.set.Set.{Set}
 use Rattle.sampler.specs.declared.SamplerFault.{SamplerFault}
 use Rattle.ring.specs.Cyclic.{cyclic_signed}
-use Rattle.rounding.specs.Symbols.{rounded_product, cross_product, slips, noises, out_of_band}
+use Rattle.rounding.specs.Symbols.{rounded_product, cross_product, slips, noises}
 use Rattle.code.specs.Words.{Bits}
 use Rattle.wire.specs.Parcels.{parcel_content}
 use Rattle.calls.specs.Chains.{Book, bind, lift, lift_form, Check, sized, areas_fit}

@@ -1,7 +1,7 @@
 // Correcting raw bits.
-ghost use Rattle.std.specs.Prelude.{◌≡◌, ◌/◌, length, if◌then◌else◌, Decides};
+ghost use Rattle.std.specs.Prelude.{◌≡◌, length, if◌then◌else◌, Decides};
 ghost use Rattle.code.specs.Words.{Bits};
-ghost use Rattle.code.specs.Correcting.{corrected_message, Mends};
+ghost use Rattle.code.specs.Correcting.{corrected_message};
 ghost use Rattle.lab.specs.Lab.{Correctable};
 
 use code::correct;
