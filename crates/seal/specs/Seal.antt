@@ -1,5 +1,5 @@
 -- What seal answers.
-use Rattle.std.specs.Prelude.{ℕ, ◌/◌, List, length, Ok, Err, Result}
+use Rattle.std.specs.Prelude.{ℕ, ◌/◌, List, length, Ok, Result}
 use Rattle.params.specs.Sizes.{key_length, parcel_length}
 use Rattle.params.specs.declared.set.Set.{Set}
 use Rattle.sampler.specs.declared.SamplerFault.{SamplerFault}

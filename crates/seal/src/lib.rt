@@ -1,4 +1,6 @@
 // The station's call: a message is sealed to a till's key.
+#![tactic(auto)]
+
 ghost use Rattle.std.specs.Prelude.{◌≡◌, ◌+◌, ◌/◌, length, Ok, Err, MatchResult};
 ghost use Rattle.params.specs.Sizes.{key_length, parcel_length};
 ghost use Rattle.wire.specs.Keys.{key_content};
@@ -72,10 +74,10 @@ fn seal_with<S: Source>(
     requires product { length product.old ≡ set.now.n + 1 }
     requires a { length a.old ≡ set.now.n }
     requires b { length b.old ≡ set.now.n }
-    ensures book { book source.new ≡ book source.old }
+    ensures book { S.book source.new ≡ S.book source.old }
     ensures cases { MatchResult result
-        (λ _. sealing (book source.old) set.now key.now message.now ≡ Ok (both parcel.new secret_out.new))
-        (λ e. (sealing (book source.old) set.now key.now message.now ≡ Err e) × (parcel.new ≡ parcel.old) × (secret_out.new ≡ secret_out.old)) }
+        (λ _. sealing (S.book source.old) set.now key.now message.now ≡ Ok (both parcel.new secret_out.new))
+        (λ e. (sealing (S.book source.old) set.now key.now message.now ≡ Err e) × (parcel.new ≡ parcel.old) × (secret_out.new ≡ secret_out.old)) }
 {
     let mut seed = [0u8; 32];
     read_key(set, key, &mut seed, b);
@@ -103,10 +105,10 @@ fn seal_in<S: Source>(
     requires out { length secret_out.old ≡ 32 }
     requires secret { length secret.old ≡ set.now.h }
     requires product { length product.old ≡ set.now.n + 1 }
-    ensures book { book source.new ≡ book source.old }
+    ensures book { S.book source.new ≡ S.book source.old }
     ensures cases { MatchResult result
-        (λ _. sealing (book source.old) set.now key.now message.now ≡ Ok (both parcel.new secret_out.new))
-        (λ e. (sealing (book source.old) set.now key.now message.now ≡ Err e) × (parcel.new ≡ parcel.old) × (secret_out.new ≡ secret_out.old)) }
+        (λ _. sealing (S.book source.old) set.now key.now message.now ≡ Ok (both parcel.new secret_out.new))
+        (λ e. (sealing (S.book source.old) set.now key.now message.now ≡ Err e) × (parcel.new ≡ parcel.old) × (secret_out.new ≡ secret_out.old)) }
 {
     let n = set.n as usize;
     let mut a = [Coefficient(0); MOST];
@@ -136,9 +138,9 @@ fn seal_within<S: Source>(
     secret: &mut [u16],
     product: &mut [u16],
 ) -> Result<(), Refusal>
-    ensures book { book source.new ≡ book source.old }
+    ensures book { S.book source.new ≡ S.book source.old }
     ensures cases { Answers result
-        (sealed (book source.old) set.now (length parcel.old) (length secret_out.old) (length secret.old) (length product.old) key.now message.now)
+        (sealed (S.book source.old) set.now (length parcel.old) (length secret_out.old) (length secret.old) (length product.old) key.now message.now)
         (both parcel.new secret_out.new) (both parcel.old secret_out.old) }
 {
     check_seal(
@@ -177,11 +179,11 @@ pub fn seal<S: Source>(
     secret_area: &mut [u16],
     product_area: &mut [u16],
 ) -> Result<(), Refusal>
-    ensures book { book source.new ≡ book source.old }
+    ensures book { S.book source.new ≡ S.book source.old }
     ensures secret_wiped { secret_area.new ≡ zeros secret_area.old }
     ensures product_wiped { product_area.new ≡ zeros product_area.old }
     ensures cases { Answers result
-        (sealed (book source.old) set.now (length parcel.old) (length secret_out.old) (length secret_area.old) (length product_area.old) key.now message.now)
+        (sealed (S.book source.old) set.now (length parcel.old) (length secret_out.old) (length secret_area.old) (length product_area.old) key.now message.now)
         (both parcel.new secret_out.new) (both parcel.old secret_out.old) }
 {
     let secret_area = Wiped { area: secret_area };
