@@ -1,5 +1,5 @@
 -- Runs of calls on a rack just made, refused ones included.
-use Rattle.std.specs.Prelude.{◌≡◌, ℕ, List, [], ◌∷◌, Ok, Err, Result, ◌≢◌}
+use Rattle.std.specs.Prelude.{ℕ, List, [], ◌∷◌, Ok, Err, Result, ◌≢◌}
 use Rattle.params.specs.declared.set.Set.{Set}
 use Rattle.calls.specs.Chains.{Book}
 use Rattle.calls.specs.declared.refusal.Refusal.{Refusal}
