@@ -3,7 +3,7 @@ use crate::files::{Output, check_name, owned, read_bytes, write_one, write_two};
 use crate::racks::{load_rack, load_set, store_rack};
 use crate::stop::Stop;
 use calls::AREA_WORDS;
-use kit::{KitIsSource, new_source};
+use kit::new_source;
 use lab::{gauge, raw_read};
 use rack::{PLACES, Rack, Record};
 use seal::seal;

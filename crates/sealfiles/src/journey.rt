@@ -4,7 +4,7 @@ use crate::listed::{LISTED, Listed};
 use crate::stop::Stop;
 use crate::texts::{JOURNEY, QUESTION};
 use code::encode;
-use kit::{KitIsSource, KitSource, always_opens, new_rack, new_source};
+use kit::{KitSource, always_opens, new_rack, new_source};
 use lab::{correct_raw, gauge, raw_read};
 use neighbour::{cost_of, neighbour};
 use params::set::Set;

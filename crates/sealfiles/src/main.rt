@@ -18,7 +18,7 @@ use crate::journey::run_journey;
 use crate::report::{show_card, show_rack, show_set, show_sets};
 use crate::stop::Stop;
 use crate::texts::HELP;
-use kit::{KitIsSource, new_source};
+use kit::new_source;
 use source::{Source, Tape};
 use std::env;
 use std::process::ExitCode;
