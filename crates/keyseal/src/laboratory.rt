@@ -12,7 +12,6 @@ use crate::made::make_set;
 use crate::origin::bytes_from;
 use crate::told::{refuse, tell};
 use calls::Refusal;
-use kit::KitIsSource;
 use lab::{gauge, raw_read};
 use params::set::Set;
 

@@ -3,7 +3,7 @@ ghost use Rattle.std.specs.Prelude.{◌≡◌};
 ghost use Rattle.sponge.specs.Book.{sponge_book};
 ghost use Rattle.keyseal.specs.Origin.{origin_book, origin_rest, origin_fits, book_of};
 
-use kit::{KitIsSource, KitSource, new_source};
+use kit::{KitSource, new_source};
 use source::{Source, SourceFault, Tape};
 
 /// A tape and another source, of which one gives the bytes.

@@ -10,7 +10,6 @@ use crate::layout::Numbers;
 use crate::made::make_set;
 use crate::origin::bytes_from;
 use crate::told::{refuse, tell};
-use kit::KitIsSource;
 use seal::seal;
 
 /// Seals a message to a key: writes the parcel and the station's secret.

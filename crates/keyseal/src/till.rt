@@ -15,7 +15,7 @@ use crate::origin::{Origin, bytes_from};
 use crate::places::{alone, keep, records_of, retire};
 use crate::told::{refuse, tell};
 use calls::Refusal;
-use kit::{KitIsSource, KitSource};
+use kit::KitSource;
 use params::set::Set;
 use rack::{PLACES, Rack};
 

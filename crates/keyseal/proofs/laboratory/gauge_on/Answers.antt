@@ -12,6 +12,6 @@ overflow_cast-out_of_band c =
     let found = c.in_ok-count.ensures.cases in
     let ws = c.gauge.new.noise in
     let few : out_of_band a.set.now.moduli ws ≤ most_n =
-    count_fits (origin_book (λ _. sponge_book) c.bytes_from.result) a.set.now (length a.noise.now) (length a.secret-area.now) (length a.product-area.now)
+    count_fits (origin_book (λ _. sponge_book) c.bytes_from.result) a.set.now (length a.noise.now) (length a.secret_area.now) (length a.product_area.now)
     a.seeds.now ws c.gauge.auto.noise found.0 in
     omega (arith, found.1, few)

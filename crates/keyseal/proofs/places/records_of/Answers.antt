@@ -1,4 +1,4 @@
-use Rattle.std.proofs.Common.{false, [], rules}
+use Rattle.std.proofs.Common.{false, []}
 use Rattle.keyseal.proofs.Records.{four_records}
 use Rattle.keyseal.proofs.places.records_of.Goals as goal
 

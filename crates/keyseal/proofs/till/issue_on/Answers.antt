@@ -10,9 +10,9 @@ returns c =
     let rack = c.rack_from-rack.ensures in
     let done = c.issue.ensures in
     record {
-      secret-wiped = done.secret-wiped;
-      product-wiped = done.product-wiped;
-      cases = issued_kept (book_of a.tape.now a.taped) a.set a.places.now a.place (length a.secret-area.now) (length a.product-area.now) a.coins.now _
+      secret_wiped = done.secret_wiped;
+      product_wiped = done.product_wiped;
+      cases = issued_kept (book_of a.tape.now a.taped) a.set a.places.now a.place (length a.secret_area.now) (length a.product_area.now) a.coins.now _
           (rw (rack.numbers, rack.book, rack.places) at c.in_ok-issue.ensures.cases) ∙ ap (λ ps. Ok (records ps)) (sym c.keep.ensures);
       bytes = c.keep.ensures;
     }

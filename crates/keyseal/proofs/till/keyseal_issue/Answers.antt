@@ -9,8 +9,8 @@ returns-in-Ok c =
     let a = c.args in
     let done = c.issue_on-outcome.ensures in
     record {
-      secret-wiped = done.secret-wiped;
-      product-wiped = done.product-wiped;
+      secret_wiped = done.secret_wiped;
+      product_wiped = done.product_wiped;
       answer = exported c.in-Ok.set c.issue_on-outcome.result c.in-Ok.ensures done.cases c.tell.ensures;
       bytes = by_number c.issue_on-outcome.result (with_coins a.places.now a.place a.coins.now) a.places.now done.bytes c.tell.ensures;
     }
@@ -20,8 +20,8 @@ returns-in-Err c =
     let a = c.args in
     let told = c.in-Err.ensures in
     record {
-      secret-wiped = c.refuse.ensures.secret_wiped;
-      product-wiped = c.refuse.ensures.product_wiped;
+      secret_wiped = c.refuse.ensures.secret_wiped;
+      product_wiped = c.refuse.ensures.product_wiped;
       answer = no_set c.in-Err.fault told.0 told.1 c.refuse.ensures.says (refl {a = records c.args.places.now});
       bytes = by_fault c.in-Err.fault (with_coins a.places.now a.place a.coins.now) a.places.now c.refuse.ensures.says;
     }

@@ -4,7 +4,7 @@ pub returns : goal.returns
 returns c =
     let done = c.keyseal_open.ensures in
     record {
-      secret-wiped = done.secret-wiped;
-      product-wiped = done.product-wiped;
+      secret_wiped = done.secret_wiped;
+      product_wiped = done.product_wiped;
       answer = simp c.alone.ensures at done.answer;
     }

@@ -8,8 +8,8 @@ returns-in-Ok c =
     let rack = c.rack_from-rack.ensures in
     let done = c.publish-outcome.ensures in
     record {
-      secret-wiped = done.secret-wiped;
-      product-wiped = done.product-wiped;
+      secret_wiped = done.secret_wiped;
+      product_wiped = done.product_wiped;
       answer = exported c.in-Ok.set c.publish-outcome.result c.in-Ok.ensures (rw (rack.numbers, rack.book, rack.places) at done.cases) c.tell.ensures;
     }
 
@@ -17,7 +17,7 @@ pub returns-in-Err : goal.returns-in-Err
 returns-in-Err c =
     let told = c.in-Err.ensures in
     record {
-      secret-wiped = c.refuse.ensures.secret_wiped;
-      product-wiped = c.refuse.ensures.product_wiped;
+      secret_wiped = c.refuse.ensures.secret_wiped;
+      product_wiped = c.refuse.ensures.product_wiped;
       answer = no_set c.in-Err.fault told.0 told.1 c.refuse.ensures.says (refl {a = c.args.key.now});
     }
