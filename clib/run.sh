@@ -1,5 +1,5 @@
 #!/bin/sh
-# Makes the C library, and compiles and runs the example over it. The last line is `N passed, M failed`. Writes below target/ alone.
+# Makes the C library, and compiles and runs the example over it. The last line is `N passed, M failed`. Writes below target/ and crates/*/out/ alone.
 set -u
 cd "$(dirname "$0")/.." || exit 2
 out=target/clib

@@ -1,7 +1,7 @@
 #!/usr/bin/env python3
 """Tries each use that the types rule out, and checks that the compiler refuses it in the words expected.
 
-Usage: tests/misuse.py    from anywhere; rt must be on the path, and the crates should have been proved before.
+Usage: tests/misuse.py    from anywhere; rt must be on the path.
 A file crates/NAME/misuse/LABEL.edit has four lines: `file:`, `old:` (a text that stands once in that file), `new:`, and `says:` (what the compiler says).
 `rt must-fail` takes only edits that compile, and whose proof then fails; these do not compile.
 """
