@@ -12,7 +12,7 @@ use std::io;
 use words::show_words;
 
 // One flip is mended: 8 payload bits and checks of 3 and 4.
-const SMALL: Proposal<'static> = Proposal {
+const SMALL: Proposal<&'static [u16]> = Proposal {
     n: 16,
     h: 2,
     qb: 9,
@@ -25,7 +25,7 @@ const SMALL: Proposal<'static> = Proposal {
 };
 
 // Two flips are mended: 8 payload bits and checks of 3, 4, 5 and 7.
-const DOUBLE: Proposal<'static> = Proposal {
+const DOUBLE: Proposal<&'static [u16]> = Proposal {
     n: 28,
     h: 2,
     qb: 9,
@@ -38,7 +38,7 @@ const DOUBLE: Proposal<'static> = Proposal {
 };
 
 // Five flips are mended: 256 payload bits, ten checks, the first by blocks.
-const LARGE: Proposal<'static> = Proposal {
+const LARGE: Proposal<&'static [u16]> = Proposal {
     n: 1170,
     h: 222,
     qb: 13,

@@ -3,7 +3,7 @@ use Rattle.std.proofs.Common.{◌≡◌, ℕ, cond, eqb, List, get_or, Ok, Err, 
 use Rattle.std.proofs.lemmas.Bool.{eq-eqb, ne_eqb, cond-true, cond-false}
 use Rattle.params.specs.Rules.{Lawful, refusal_numbers as set-numbers}
 use Rattle.params.specs.Made.{Holds}
-use Rattle.params.specs.declared.proposal.Proposal.{Proposal}
+use Rattle.params.specs.Proposed.{LentProposal}
 use Rattle.params.specs.declared.proposal.SetFault.{SetFault}
 use Rattle.params.specs.declared.proposal.SetFault.TheVariants.{Broken, Shared}
 use Rattle.params.specs.declared.set.Set.{Set}
@@ -21,7 +21,7 @@ told answer {is} {was} {k} {words} (Ok u) e s = record { says = subst (λ a. Say
 told answer {is} {was} {k} {words} (Err d) e s = record { says = subst (λ a. Says k words (numbers_of a)) (sym e.0) s; leaves = e.1 ∙ sym (ap (left was) e.0) }
 
 -- a call on a set that was made
-pub exported : {X : Type 0} {p : Proposal} {k : ℕ} {words : List ℕ} {is was : X} {answer : Set → Result X Refusal} (s : Set) (r : Check) → Lawful p × Holds s p
+pub exported : {X : Type 0} {p : LentProposal} {k : ℕ} {words : List ℕ} {is was : X} {answer : Set → Result X Refusal} (s : Set) (r : Check) → Lawful p × Holds s p
     → Answers r (answer s) is was → Says k words (numbers_of r) → Exported p k words is was answer
 exported s r made a t = on_set s made.0 made.1 (told _ r a t)
 

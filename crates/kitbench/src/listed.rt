@@ -5,7 +5,7 @@ use params::proposal::Proposal;
 #[derive(Clone, Copy)]
 pub struct Listed {
     pub name: &'static str,
-    pub proposal: Proposal<'static>,
+    pub proposal: Proposal<&'static [u16]>,
 }
 
 // The small set T, R5ND_5CCA_5d, and the neighbour of R5ND_5CCA_0d that is below the line; then, not timed, a set with so much noise that most

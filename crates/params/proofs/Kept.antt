@@ -5,11 +5,11 @@ use Rattle.params.specs.Checks.{LengthsFit, symbol_count}
 use Rattle.params.specs.Limits.{most_checks, most_n}
 use Rattle.params.specs.Rules.{CodeFits, Judged, Keeps, KeepsBelow, KeepsRules, proposed_lengths, shape_of}
 use Rattle.params.specs.declared.shape.Shape.{Shape}
-use Rattle.params.specs.declared.proposal.Proposal.{Proposal}
+use Rattle.params.specs.Proposed.{LentProposal}
 use Rattle.params.specs.declared.proposal.Rule.TheVariants.{RingSize, Weight, Exponents, Balance, Payload, Flips, Lengths, BlockMark, SymbolCount}
 
 -- lengths that fit as they are proposed fit in the table
-pub table_fits : (p : Proposal) → Keeps Lengths p → LengthsFit (shape_of p)
+pub table_fits : (p : LentProposal) → Keeps Lengths p → LengthsFit (shape_of p)
 table_fits p (count, fit) j h =
     let ls = proposed_lengths p in
     let e : get_or (ls ++ replicate (most_checks - length ls) 0) j 0 ≡ get_or ls j 0 = get_or_append_left ls (replicate (most_checks - length ls) 0) 0 j (omega arith) in
@@ -17,7 +17,7 @@ table_fits p (count, fit) j h =
     (omega (arith, f.0), omega (arith, f.1))
 
 -- six rules and the last three are all
-pub all_rules : (p : Proposal) → KeepsBelow 7 p → Keeps Lengths p → Keeps BlockMark p → Keeps SymbolCount p → KeepsRules p
+pub all_rules : (p : LentProposal) → KeepsBelow 7 p → Keeps Lengths p → Keeps BlockMark p → Keeps SymbolCount p → KeepsRules p
 all_rules p six lengths mark count RingSize = six RingSize (omega arith)
 all_rules p six lengths mark count Weight = six Weight (omega arith)
 all_rules p six lengths mark count Exponents = six Exponents (omega arith)
@@ -28,7 +28,7 @@ all_rules p six lengths mark count Lengths = lengths
 all_rules p six lengths mark count BlockMark = mark
 all_rules p six lengths mark count SymbolCount = count
 
-proposed_fits : (p : Proposal) → KeepsRules p → CodeFits (shape_of p)
+proposed_fits : (p : LentProposal) → KeepsRules p → CodeFits (shape_of p)
 proposed_fits p k = record {
   low = (k Payload).0;
   high = (k Payload).1;
@@ -39,9 +39,9 @@ proposed_fits p k = record {
 }
 
 -- a proposal that keeps the rules, with its code and symbol count
-pub judged : (p : Proposal) (s : Shape) (mu : ℕ) → KeepsRules p → s ≡ shape_of p → mu ≡ symbol_count s → Judged p s mu
+pub judged : (p : LentProposal) (s : Shape) (mu : ℕ) → KeepsRules p → s ≡ shape_of p → mu ≡ symbol_count s → Judged p s mu
 judged p s mu k same count = record { rules = k; same = same; count = count; fits = subst (λ (x : Shape). CodeFits x) (sym same) (proposed_fits p k) }
 
 -- a symbol count within n is within the largest n
-pub count_short : (p : Proposal) (s : Shape) (mu : ℕ) → Judged p s mu → mu ≤ most_n
+pub count_short : (p : LentProposal) (s : Shape) (mu : ℕ) → Judged p s mu → mu ≤ most_n
 count_short p s mu j = omega (arith, j.count, ap symbol_count j.same, j.rules SymbolCount, (j.rules RingSize).1)

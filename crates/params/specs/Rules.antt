@@ -3,18 +3,18 @@ use Rattle.std.specs.Prelude.{◌≡◌, ℕ, ◌+◌, ◌-◌, ◌*◌, ◌%◌
 use Rattle.params.specs.Limits.{most_n, most_kappa, most_flips, most_checks, longest_check, word_bits}
 use Rattle.params.specs.Checks.{LengthsFit, MarkFits, SharesTwo, CodeRule, symbol_count}
 use Rattle.params.specs.declared.shape.Shape.{Shape}
-use Rattle.params.specs.declared.proposal.Proposal.{Proposal}
+use Rattle.params.specs.Proposed.{LentProposal}
 use Rattle.params.specs.declared.proposal.Rule.{Rule}
 use Rattle.params.specs.declared.proposal.Rule.TheVariants.{RingSize, Weight, Exponents, Balance, Payload, Flips, Lengths, BlockMark, SymbolCount}
 use Rattle.params.specs.declared.proposal.SetFault.{SetFault}
 use Rattle.params.specs.declared.proposal.SetFault.TheVariants.{Broken, Shared}
 
 -- the check lengths that are proposed
-abbrev pub proposed_lengths : Proposal → List ℕ
+abbrev pub proposed_lengths : LentProposal → List ℕ
 proposed_lengths p = p.lengths.now
 
 -- the code that is proposed; the table of lengths is filled with zeros
-abbrev pub shape_of : Proposal → Shape
+abbrev pub shape_of : LentProposal → Shape
 shape_of p = record {
   kappa = p.kappa;
   f = p.f;
@@ -27,7 +27,7 @@ abbrev pub LengthFits : ℕ → Type 0
 LengthFits x = (1 ≤ x) × (x ≤ longest_check)
 
 -- what each rule asks of a proposal
-abbrev pub Keeps : Rule → Proposal → Type 0
+abbrev pub Keeps : Rule → LentProposal → Type 0
 Keeps RingSize p = (8 ≤ p.n) × (p.n ≤ most_n) × (p.n % 2 ≡ 0)
 Keeps Weight p = (2 ≤ p.h) × (p.h ≤ p.n) × (p.h % 2 ≡ 0)
 Keeps Exponents p = (1 ≤ p.tb) × (p.tb < p.pb) × (p.pb < p.qb) × (p.qb ≤ word_bits)
@@ -60,32 +60,32 @@ pub record CodeFits (s : Shape) : Type 0 where
   pub mark : MarkFits s
 
 -- all nine rules
-abbrev pub KeepsRules : Proposal → Type 0
+abbrev pub KeepsRules : LentProposal → Type 0
 KeepsRules p = (r : Rule) → Keeps r p
 
 -- the rules of a lower number than m
-abbrev pub KeepsBelow : ℕ → Proposal → Type 0
+abbrev pub KeepsBelow : ℕ → LentProposal → Type 0
 KeepsBelow m p = (r : Rule) → rule_number r < m → Keeps r p
 
 -- what is known of a proposal that keeps the rules, its code s and its symbol count
-pub record Judged (p : Proposal) (s : Shape) (mu : ℕ) : Type 0 where
+pub record Judged (p : LentProposal) (s : Shape) (mu : ℕ) : Type 0 where
   pub rules : KeepsRules p
   pub same : s ≡ shape_of p
   pub count : mu ≡ symbol_count s
   pub fits : CodeFits s
 
 -- r is the lowest rule that the proposal breaks
-pub record LowestBroken (r : Rule) (p : Proposal) : Type 0 where
+pub record LowestBroken (r : Rule) (p : LentProposal) : Type 0 where
   pub broken : Keeps r p → ⊥
   pub below : KeepsBelow (rule_number r) p
 
 -- a lawful proposal keeps the rules and the code rule
-pub record Lawful (p : Proposal) : Type 0 where
+pub record Lawful (p : LentProposal) : Type 0 where
   pub rules : KeepsRules p
   pub code : CodeRule (shape_of p)
 
 -- what a refusal says of the proposal: the lowest rule broken, or two payload positions that share two checks
-abbrev pub Told : SetFault → Proposal → Type 0
+abbrev pub Told : SetFault → LentProposal → Type 0
 Told (Broken r) p = LowestBroken r p
 Told (Shared a b) p = KeepsRules p × SharesTwo (shape_of p) a b
 

@@ -1,8 +1,10 @@
 // What is proposed for a set, and why it may be refused.
+ghost use Rattle.std.specs.Prelude.{◌≡◌};
+ghost use Rattle.params.specs.Proposed.{with_lengths};
 
-// The numbers of a set as a user states them, of which no rule is promised.
+// The numbers of a set as a user states them, of which no rule is promised, and its check lengths, however they are held.
 #[derive(Clone, Copy)]
-pub struct Proposal<'a> {
+pub struct Proposal<L> {
     pub n: u16,
     pub h: u16,
     pub qb: u16,
@@ -11,7 +13,26 @@ pub struct Proposal<'a> {
     pub kappa: u16,
     pub f: u16,
     pub block: bool,
-    pub lengths: &'a [u16],
+    pub lengths: L,
+}
+
+impl<L> Proposal<L> {
+    // The same numbers with other check lengths.
+    pub fn with_lengths<M>(&self, lengths: M) -> Proposal<M>
+        ensures { result ≡ with_lengths self.now lengths }
+    {
+        Proposal {
+            n: self.n,
+            h: self.h,
+            qb: self.qb,
+            pb: self.pb,
+            tb: self.tb,
+            kappa: self.kappa,
+            f: self.f,
+            block: self.block,
+            lengths,
+        }
+    }
 }
 
 // The nine rules of a set, in their order.

@@ -40,31 +40,31 @@ impl SetFault {
     }
 }
 
-fn keeps_ring_size(p: &Proposal) -> bool
+fn keeps_ring_size(p: &Proposal<&[u16]>) -> bool
     ensures { Decides result (Keeps RingSize p.now) }
 {
     p.n >= 8 && p.n <= MOST_N && p.n % 2 == 0
 }
 
-fn keeps_weight(p: &Proposal) -> bool
+fn keeps_weight(p: &Proposal<&[u16]>) -> bool
     ensures { Decides result (Keeps Weight p.now) }
 {
     p.h >= 2 && p.h <= p.n && p.h % 2 == 0
 }
 
-fn keeps_exponents(p: &Proposal) -> bool
+fn keeps_exponents(p: &Proposal<&[u16]>) -> bool
     ensures { Decides result (Keeps Exponents p.now) }
 {
     p.tb >= 1 && p.tb < p.pb && p.pb < p.qb && p.qb <= WORD_BITS
 }
 
-fn keeps_balance(p: &Proposal) -> bool
+fn keeps_balance(p: &Proposal<&[u16]>) -> bool
     ensures { Decides result (Keeps Balance p.now) }
 {
     p.tb as u32 + p.qb as u32 <= 2 * p.pb as u32
 }
 
-fn keeps_payload(p: &Proposal) -> bool
+fn keeps_payload(p: &Proposal<&[u16]>) -> bool
     ensures { Decides result (Keeps Payload p.now) }
 {
     p.kappa >= 8 && p.kappa <= MOST_KAPPA && p.kappa % 8 == 0
@@ -82,7 +82,7 @@ fn lengths_fit(lengths: &[u16]) -> bool
     true
 }
 
-fn keeps_lengths(p: &Proposal) -> bool
+fn keeps_lengths(p: &Proposal<&[u16]>) -> bool
     ensures { Decides result (Keeps Lengths p.now) }
 {
     p.lengths.len() == 2 * p.f as usize && lengths_fit(p.lengths)
@@ -100,7 +100,7 @@ fn padded(lengths: &[u16]) -> [u16; MOST_CHECKS]
 }
 
 // The code that is proposed.
-fn proposed_shape(p: &Proposal) -> Shape
+fn proposed_shape(p: &Proposal<&[u16]>) -> Shape
     requires { length p.now.lengths.now ≤ most_checks }
     ensures { result ≡ shape_of p.now }
 {
@@ -135,7 +135,7 @@ fn count_symbols(shape: &Shape) -> u16
 }
 
 // Rules 1 to 6, which speak of numbers alone.
-fn judge_numbers(p: &Proposal) -> Result<(), Rule>
+fn judge_numbers(p: &Proposal<&[u16]>) -> Result<(), Rule>
     ensures { MatchResult result (λ _. KeepsBelow 7 p.now) (λ k. LowestBroken k p.now) }
 {
     if !keeps_ring_size(p) {
@@ -160,7 +160,7 @@ fn judge_numbers(p: &Proposal) -> Result<(), Rule>
 }
 
 // All nine rules: the code that is proposed and its symbol count, or the lowest rule that is broken.
-pub(crate) fn judge(p: &Proposal) -> Result<(Shape, u16), Rule>
+pub(crate) fn judge(p: &Proposal<&[u16]>) -> Result<(Shape, u16), Rule>
     ensures { MatchResult result (λ s. Judged p.now s.0 s.1) (λ k. LowestBroken k p.now) }
 {
     judge_numbers(p)?;

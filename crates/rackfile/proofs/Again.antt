@@ -5,7 +5,7 @@ use Rattle.params.specs.Limits.{most_checks}
 use Rattle.params.specs.Sums.{sum}
 use Rattle.params.specs.Checks.{check_length, place_of, symbol_count, MarkFits, CodeRule}
 use Rattle.params.specs.Rules.{proposed_lengths, shape_of, LengthFits, KeepsRules, Lawful}
-use Rattle.params.specs.declared.proposal.Proposal.{Proposal}
+use Rattle.params.specs.Proposed.{LentProposal}
 use Rattle.params.specs.declared.proposal.Rule.TheVariants.{RingSize, Weight, Exponents, Balance, Payload, Flips, Lengths, BlockMark, SymbolCount}
 use Rattle.params.specs.declared.set.Set.{Set}
 use Rattle.params.specs.declared.shape.Shape.{Shape}
@@ -49,7 +49,7 @@ module _ (a b : Shape) (alike : Alike a b) where
       ap₂ (λ (m n : ℕ). m + sum (2 * n) (check_length a)) alike.kappa alike.f
       ∙ ap (λ (m : ℕ). b.kappa + m) (sum_same (2 * b.f) (check_length a) (check_length b) alike.lengths)
 
-module _ (s : Set) (p : Proposal) (h : Proposes p (numbers_of s)) where
+module _ (s : Set) (p : LentProposal) (h : Proposes p (numbers_of s)) where
   abbrev shape : Shape
   shape = s.code.shape
 

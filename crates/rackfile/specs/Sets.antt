@@ -2,7 +2,7 @@
 use Rattle.std.specs.Prelude.{◌≡◌, ℕ, ◌-◌, ◌*◌, List, ◌++◌, take, replicate}
 use Rattle.params.specs.Limits.{most_checks}
 use Rattle.params.specs.Rules.{Lawful}
-use Rattle.params.specs.declared.proposal.Proposal.{Proposal}
+use Rattle.params.specs.Proposed.{LentProposal}
 use Rattle.params.specs.declared.set.Set.{Set}
 use Rattle.params.specs.declared.shape.Shape.{Shape}
 use Rattle.rackfile.specs.declared.image.Numbers.{Numbers}
@@ -30,7 +30,7 @@ abbrev pub proposed : Numbers → List ℕ
 proposed s = take (2 * s.f) s.lengths
 
 -- the proposal has these numbers
-pub record Proposes (p : Proposal) (s : Numbers) : Type 0 where
+pub record Proposes (p : LentProposal) (s : Numbers) : Type 0 where
   pub n : p.n ≡ s.n
   pub h : p.h ≡ s.h
   pub qb : p.qb ≡ s.qb
@@ -43,4 +43,4 @@ pub record Proposes (p : Proposal) (s : Numbers) : Type 0 where
 
 -- every proposal that has these numbers is lawful
 abbrev pub LawfulNumbers : Numbers → Type 0
-LawfulNumbers s = (p : Proposal) → Proposes p s → Lawful p
+LawfulNumbers s = (p : LentProposal) → Proposes p s → Lawful p

@@ -59,7 +59,7 @@ impl Numbers {
     }
 
     /// The proposal of a set with these numbers.
-    pub fn proposal(&self) -> Proposal<'_>
+    pub fn proposal(&self) -> Proposal<&[u16]>
         ensures { Proposes result self.now }
     {
         Proposal {

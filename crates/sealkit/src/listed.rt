@@ -5,7 +5,7 @@ use params::proposal::Proposal;
 #[derive(Clone, Copy)]
 pub struct Listed {
     pub name: &'static str,
-    pub proposal: Proposal<'static>,
+    pub proposal: Proposal<&'static [u16]>,
 }
 
 // The small set T, and six of Round5's ring sets by their published names.

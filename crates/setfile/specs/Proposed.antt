@@ -1,11 +1,11 @@
 -- What a draft proposes for a set.
 use Rattle.std.specs.Prelude.{◌≡◌}
-use Rattle.params.specs.declared.proposal.Proposal.{Proposal}
+use Rattle.params.specs.Proposed.{LentProposal}
 use Rattle.setfile.specs.Values.{given_lengths}
 use Rattle.setfile.specs.declared.draft.Draft.{Draft}
 
 -- the proposal has the draft's numbers, lengths and mark
-pub record Proposes (p : Proposal) (d : Draft) : Type 0 where
+pub record Proposes (p : LentProposal) (d : Draft) : Type 0 where
   pub n : p.n ≡ d.n
   pub h : p.h ≡ d.h
   pub qb : p.qb ≡ d.qb

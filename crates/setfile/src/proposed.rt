@@ -23,7 +23,7 @@ impl Lengths {
 
 impl Draft {
     // The proposal that the file makes.
-    pub fn proposal(&self) -> Proposal<'_>
+    pub fn proposal(&self) -> Proposal<&[u16]>
         ensures { Proposes result self.now }
     {
         Proposal {
