@@ -1,8 +1,8 @@
 // The permutation Keccak-p[1600, 24] of FIPS 202.
 #![tactic(auto)]
 
-ghost use Rattle.std.specs.Prelude.{◌≡◌, ◌<◌, [], ◌∷◌};
-ghost use Rattle.keccak.specs.Keccak.{theta, rho, pi, mixed, chi, iota, round_constant, keccak_p};
+ghost use Rattle.std.specs.Prelude.{◌≡◌, [], ◌∷◌};
+ghost use Rattle.keccak.specs.Keccak.{theta, rho, pi, mixed, chi, iota, keccak_p};
 
 const ROUNDS: usize = 24;
 
@@ -156,19 +156,11 @@ fn round(state: &mut [u64; 25], constant: u64)
     ];
 }
 
-// The constant of round i.
-fn round_constant(i: usize) -> u64
-    requires { i < 24 }
-    ensures { result ≡ round_constant i }
-{
-    ROUND_CONSTANTS[i]
-}
-
 /// Keccak-p[1600, 24] of the lanes, the one at column x and row y at place x + 5 y.
 pub fn permute(state: &mut [u64; 25])
     ensures { state.new ≡ keccak_p state.old }
 {
-    for i in 0..ROUNDS {
-        round(state, round_constant(i));
+    for constant in ROUND_CONSTANTS {
+        round(state, constant);
     }
 }

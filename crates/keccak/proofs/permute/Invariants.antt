@@ -2,5 +2,5 @@ use Rattle.std.proofs.Common.{◌≡◌}
 use Rattle.keccak.specs.Keccak.{rounds}
 use Rattle.keccak.proofs.permute.Given as goal
 
-abbrev pub invariant-loop-i : goal.invariant-loop-i
-invariant-loop-i l = l.state ≡ rounds l.i l.initial.state
+abbrev pub invariant-loop-constant : goal.invariant-loop-constant
+invariant-loop-constant l = l.state ≡ rounds l.constant-index l.initial.state
