@@ -40,6 +40,7 @@ const ROUND_CONSTANTS: [u64; ROUNDS] = [
 ];
 
 // Chi of one row. A product with an inverted factor is the inverse of a sum, so three inversions do in place of five.
+#[tactic(auto, using(crate::proofs::Inverse::mixed_by_sum))]
 fn chi_row(b0: u64, b1: u64, b2: u64, b3: u64, b4: u64) -> [u64; 5]
     ensures { result ≡ mixed b0 b1 b2 ∷ mixed b1 b2 b3 ∷ mixed b2 b3 b4 ∷ mixed b3 b4 b0 ∷ mixed b4 b0 b1 ∷ [] }
 {
