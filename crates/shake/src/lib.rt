@@ -18,17 +18,9 @@ fn lane(bytes: &[u8; STATE_BYTES], k: usize) -> u64
     requires { k < 25 }
     ensures { result ≡ lane_at bytes.now k }
 {
-    let i = 8 * k;
-    u64::from_le_bytes([
-        bytes[i],
-        bytes[i + 1],
-        bytes[i + 2],
-        bytes[i + 3],
-        bytes[i + 4],
-        bytes[i + 5],
-        bytes[i + 6],
-        bytes[i + 7],
-    ])
+    let mut eight = [0; 8];
+    eight.copy_from_slice(&bytes[8 * k..8 * k + 8]);
+    u64::from_le_bytes(eight)
 }
 
 // The lanes that the bytes make.
@@ -36,8 +28,8 @@ fn lanes(bytes: &[u8; STATE_BYTES]) -> [u64; 25]
     ensures { result ≡ lanes_of bytes.now }
 {
     let mut lanes = [0; 25];
-    for k in 0..25 {
-        lanes[k] = lane(bytes, k);
+    for (k, place) in lanes.iter_mut().enumerate() {
+        *place = lane(bytes, k);
     }
     lanes
 }
@@ -47,10 +39,8 @@ fn bytes(lanes: &[u64; 25]) -> [u8; STATE_BYTES]
     ensures { result ≡ bytes_of lanes.now }
 {
     let mut bytes = [0; STATE_BYTES];
-    for k in 0..25 {
-        let eight = lanes[k].to_le_bytes();
-        let i = 8 * k;
-        bytes[i..i + 8].copy_from_slice(&eight);
+    for (k, lane) in lanes.iter().enumerate() {
+        bytes[8 * k..8 * k + 8].copy_from_slice(&lane.to_le_bytes());
     }
     bytes
 }
@@ -69,9 +59,8 @@ fn xor_into(front: &mut [u8], bytes: &[u8])
     requires { length front.old ≡ length bytes.now }
     ensures { front.new ≡ xored front.old bytes.now }
 {
-    let n = front.len();
-    for i in 0..n {
-        front[i] ^= bytes[i];
+    for (i, byte) in front.iter_mut().enumerate() {
+        *byte ^= bytes[i];
     }
 }
 

@@ -3,4 +3,4 @@ use Rattle.shake.specs.Shake.{lane_at}
 use Rattle.shake.proofs.lanes.Given as goal
 
 abbrev pub invariant-loop-k : goal.invariant-loop-k
-invariant-loop-k l = (length l.lanes ≡ 25) × ((j : ℕ) → j < l.k → get_or l.lanes j 0 ≡ lane_at l.bytes j)
+invariant-loop-k l = (length l.place-items ≡ 25) × ((j : ℕ) → j < l.k → get_or l.place-items j 0 ≡ lane_at l.bytes j)
