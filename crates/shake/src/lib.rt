@@ -92,15 +92,16 @@ impl Absorbing {
     }
 
     /// Takes the next bytes of the message: what is taken later comes after them, however the message is cut into pieces.
+    #[tactic(auto, unfolding(crate::specs::Meaning::after))]
     pub fn absorb(&mut self, bytes: &[u8])
         ensures { (m : List ℕ) (k : ℕ) → after self.new m k ≡ after self.old (bytes.now ++ m) k }
     {
-        let n = bytes.len();
-        let mut done = 0;
-        while done < n {
-            let k = (RATE - self.position).min(n - done);
-            self.absorb_run(&bytes[done..done + k]);
-            done += k;
+        let mut rest = bytes;
+        while !rest.is_empty() {
+            let room = RATE - self.position;
+            let (run, later) = rest.split_at(room.min(rest.len()));
+            self.absorb_run(run);
+            rest = later;
         }
     }
 
