@@ -46,6 +46,7 @@ fn bytes(lanes: &[u64; 25]) -> [u8; STATE_BYTES]
 }
 
 // Keccak's permutation, on bytes.
+#[tactic(auto, unfolding(crate::specs::Shake::permuted))]
 fn permute_bytes(state: &mut [u8; STATE_BYTES])
     ensures { state.new ≡ permuted state.old }
 {
@@ -55,6 +56,7 @@ fn permute_bytes(state: &mut [u8; STATE_BYTES])
 }
 
 // Xors bytes into as many others.
+#[tactic(auto, using(crate::proofs::Xor::xored_more, crate::proofs::Xor::xored_nil))]
 fn xor_into(front: &mut [u8], bytes: &[u8])
     requires { length front.old ≡ length bytes.now }
     ensures { front.new ≡ xored front.old bytes.now }
@@ -122,6 +124,7 @@ impl Absorbing {
 
 impl Squeezing {
     // Where a block is given whole, goes on to the next.
+    #[tactic(auto, unfolding(crate::specs::Meaning::coming), using(crate::proofs::Output::next_block))]
     fn ready(&mut self)
         ensures same { (k : ℕ) → coming self.new k ≡ coming self.old k }
         ensures room { self.new.position < rate }
@@ -139,6 +142,7 @@ impl Squeezing {
     {
         let n = out.len();
         let mut done = 0;
+        // Kept: of a lent buffer that a loop splits, and whose rest it hands to its next turn, no proof knows what it ends as.
         while done < n {
             self.ready();
             let start = self.position;
