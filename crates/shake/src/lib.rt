@@ -35,6 +35,7 @@ fn lanes(bytes: &[u8; STATE_BYTES]) -> [u64; 25]
 }
 
 // The bytes that the lanes make.
+#[tactic(auto, unfolding(crate::specs::Shake::bytes_of))]
 fn bytes(lanes: &[u64; 25]) -> [u8; STATE_BYTES]
     ensures { result ≡ bytes_of lanes.now }
 {
@@ -68,6 +69,7 @@ fn xor_into(front: &mut [u8], bytes: &[u8])
 
 impl Absorbing {
     /// A sponge for a new message.
+    #[tactic(auto, unfolding(crate::specs::Meaning::after, crate::specs::Shake::shake256))]
     pub fn new() -> Absorbing
         ensures { (m : List ℕ) (k : ℕ) → after result m k ≡ shake256 m k }
     {
@@ -78,6 +80,7 @@ impl Absorbing {
     }
 
     // Absorbs a run of bytes that lies in this block.
+    #[tactic(auto, using(crate::proofs::Blocks::run_more, crate::proofs::Blocks::run_end))]
     fn absorb_run(&mut self, run: &[u8])
         requires { self.old.position + length run.now ≤ rate }
         ensures { (m : List ℕ) → filled self.new m ≡ filled self.old (run.now ++ m) }
@@ -108,6 +111,7 @@ impl Absorbing {
     }
 
     /// Ends the message: from here on bytes only come out.
+    #[tactic(auto, unfolding(crate::specs::Meaning::after, crate::specs::Meaning::coming), using(crate::proofs::Blocks::last_block))]
     pub fn finish(self) -> Squeezing
         ensures { (k : ℕ) → coming result k ≡ after self [] k }
     {
@@ -156,6 +160,7 @@ impl Squeezing {
 
 /// The first bytes of SHAKE256 of the label and then the pieces, one after the other: as many as the buffer holds.
 /// The pieces have one lifetime: a caller whose pieces have several goes by a function that names one, as `fn two<'x>(a: &'x [u8], b: &'x [u8])`.
+#[tactic(auto, using(std::proofs::lemmas::List::at_drop_more, std::proofs::lemmas::List::at_drop_all))]
 pub fn hash(label: u8, pieces: &[&[u8]], out: &mut [u8])
     ensures { out.new ≡ shake256 (label ∷ flat_map (λ p. p.now) pieces.now) (length out.old) }
 {
