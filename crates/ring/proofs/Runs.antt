@@ -1,9 +1,8 @@
 -- The runs of the product: what `along` does, one element more at a time, and what two runs do.
 use Rattle.std.proofs.Common.{◌≡◌, ℕ, zero, suc, ◌+◌, ◌-◌, ◌%◌, ◌<◌, min, List, [], ◌∷◌, ◌++◌, map, length, get_or, take, drop, set, sym, refl, ap, ◌∙◌, subst, inl, inr, mod-eq_of_lt, add-one, arith}
 use native.Mathlib.Nat.{add-mod_right}
-use borrow.Rule.Slice.PartMut.{put_mid, post_of}
 use Rattle.std.proofs.lemmas.Bool.{cases_lt}
-use Rattle.std.proofs.lemmas.List.{append-nil, length-take-le, length-drop, take_at, take_rest, drop_all, drop_at, length-map, take-map, drop-map, get_or_append_left, get_or-append_right, get_or-drop, get_or-take, get_or_past}
+use Rattle.std.proofs.lemmas.List.{length-take-le, length-drop, length-map, take-map, drop-map, get_or_append_left, get_or-append_right, get_or-drop, get_or-take, get_or_past}
 use Rattle.ring.specs.Cyclic.{along, back}
 
 module _ {X : Type 0} (op : X → X → X) where
@@ -72,28 +71,15 @@ module _ {X : Type 0} (op : X → X → X) where
             ∙ ap (op (get_or xs k d)) (y-is ∙ sym (ap (λ i. get_or ys i d) place))
       ]
 
-  -- what the slice holds after two runs over its parts
-  pub two_parts : {Y : Type 0} (f : Y → X) (xs us vs : List X) (poly : List Y) (p s k : ℕ) (d : X) → length xs ≡ length poly + 1 → p < length poly → s ≡ min (length poly) (length xs - p) → us ≡ along op (take (length xs - p) (drop p xs)) (map f (take (s - 0) poly)) → vs ≡ along op (take (p - 0) (put_mid p (length xs - p) xs us)) (map f (take (length poly - s) (drop s poly))) → k < length poly + 1 → op (get_or xs k d) d ≡ get_or xs k d → get_or (vs ++ post_of 0 (p - 0) (put_mid p (length xs - p) xs us)) k d ≡ op (get_or xs k d) (get_or (map f poly) (back (length poly + 1) k p) d)
-  two_parts f xs us vs poly p s k d long within split e₁ e₂ lt stays =
+  -- what the slice holds after two runs: us over the part from p on, and vs over the part before it
+  pub two_parts : {Y : Type 0} (f : Y → X) (xs us vs low high : List X) (poly first rest : List Y) (p s k : ℕ) (d : X) → length xs ≡ length poly + 1 → p < length poly → low ≡ take p xs → high ≡ drop p xs → s ≡ min (length poly) (length high) → first ≡ take s poly → rest ≡ drop s poly → us ≡ along op high (map f first) → vs ≡ along op low (map f rest) → k < length poly + 1 → op (get_or xs k d) d ≡ get_or xs k d → get_or (vs ++ us) k d ≡ op (get_or xs k d) (get_or (map f poly) (back (length poly + 1) k p) d)
+  two_parts f xs us vs low high poly first rest p s k d long within l h split a b u v lt stays =
       let ys = map f poly in
-      let r = length xs - p in
-      let all = put_mid p r xs us in
       let same : length ys ≡ length poly = length-map poly f in
-      let z₁ : s - 0 ≡ s = omega arith in
-      let z₂ : p - 0 ≡ p = omega arith in
-      let t₁ : take r (drop p xs) ≡ drop p xs = take_rest xs p in
+      let end : s ≡ min (length ys) (length xs - p) = omega (arith, length-drop p xs, ap length h) in
       let s₁ : map f (take s poly) ≡ take s ys = sym (take-map f s poly) in
-      let us-is : us ≡ along op (drop p xs) (take s ys) = cc in
-      let none : drop r (drop p xs) ≡ [] = drop_all r (drop p xs) (omega (arith, length-drop p xs)) in
-      let all-is : all ≡ take p xs ++ us = ap (λ zs. take p xs ++ (us ++ zs)) none ∙ ap (λ zs. take p xs ++ zs) (append-nil us) in
-      let front : length (take p xs) ≡ p = length-take-le p xs (omega arith) in
-      let t₂ : take p (take p xs ++ us) ≡ take p xs = take_at (take p xs) us p front in
-      let d₂ : drop p (take p xs ++ us) ≡ us = drop_at (take p xs) us p front in
-      let t₃ : take (length poly - s) (drop s poly) ≡ drop s poly = take_rest poly s in
-      let s₃ : map f (drop s poly) ≡ drop s ys = sym (drop-map f s poly) in
-      let vs-is : vs ≡ along op (take p xs) (drop s ys) = cc in
-      let rest : post_of 0 (p - 0) all ≡ us = ap (λ n. drop n all) z₂ ∙ ap (drop p) all-is ∙ d₂ in
-      ap (λ ws. get_or (ws ++ post_of 0 (p - 0) all) k d) vs-is
-      ∙ ap (λ ws. get_or (along op (take p xs) (drop s ys) ++ ws) k d) (rest ∙ us-is)
-      ∙ two_runs xs ys p s k d (omega arith) (omega arith) (omega arith) (omega arith) stays
+      let s₂ : map f (drop s poly) ≡ drop s ys = sym (drop-map f s poly) in
+      let joined : vs ++ us ≡ along op (take p xs) (drop s ys) ++ along op (drop p xs) (take s ys) = cc in
+      ap (λ zs. get_or zs k d) joined
+      ∙ two_runs xs ys p s k d (omega arith) (omega arith) end (omega arith) stays
       ∙ ap (λ m. op (get_or xs k d) (get_or ys (back (m + 1) k p) d)) same

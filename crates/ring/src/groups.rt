@@ -6,6 +6,8 @@ ghost use Rattle.std.proofs.lemmas.Int.{SFits-int_wrap, int_wrap-add_left, int_w
 ghost use Rattle.std.specs.Int.{int_wrap, w32};
 ghost use Rattle.ring.specs.I32GroupLemmas.{moved, same, undone};
 
+use crate::residues::Residue;
+
 // A commutative group. Its laws hold of the values that fit their word, as every value of the code does.
 pub trait Group: Copy {
     ghost none: { Self };
@@ -51,14 +53,14 @@ pub trait Group: Copy {
     ghost inverse: { (x y : Self) → fits x → fits y → plus (minus x y) y ≡ x };
 }
 
-impl Group for u16 {
-    ghost none = { 0 };
+impl<R: Residue> Group for R {
+    ghost none = { R.made 0 };
 
-    ghost plus = { add16 };
+    ghost plus = { λ x y. R.made (add16 (R.bare x) (R.bare y)) };
 
-    ghost minus = { sub16 };
+    ghost minus = { λ x y. R.made (sub16 (R.bare x) (R.bare y)) };
 
-    ghost fits = { λ x. x < 2 ^ 16 };
+    ghost fits = { λ x. R.bare x < 2 ^ 16 };
 
     ghost origin = { Prim.search rules };
 
@@ -74,16 +76,16 @@ impl Group for u16 {
 
     ghost inverse = { Prim.search rules };
 
-    fn zero() -> u16 {
-        0
+    fn zero() -> R {
+        R::of(0)
     }
 
-    fn add(self, other: u16) -> u16 {
-        self.wrapping_add(other)
+    fn add(self, other: R) -> R {
+        R::of(self.number().wrapping_add(other.number()))
     }
 
-    fn sub(self, other: u16) -> u16 {
-        self.wrapping_sub(other)
+    fn sub(self, other: R) -> R {
+        R::of(self.number().wrapping_sub(other.number()))
     }
 }
 

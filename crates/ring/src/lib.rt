@@ -3,12 +3,14 @@
 
 mod groups;
 mod laws;
+mod residues;
 mod sorts;
 mod sparse;
 mod whole;
 
 pub use groups::Group;
 pub use laws::ring_laws;
+pub use residues::Residue;
 pub use sorts::{Coefficient, Rounded, Sort, Symbol};
 pub use sparse::multiply;
-pub use whole::{multiply_coefficients, multiply_rounded, multiply_signed};
+pub use whole::{multiply_residues, multiply_signed};

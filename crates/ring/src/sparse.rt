@@ -12,8 +12,8 @@ fn run<S: Sort>(dst: &mut [S::Word], src: &[S], subtract: bool)
     requires { length src.now ≤ length dst.old }
     ensures { dst.new ≡ along (if subtract then S.Word.minus else S.Word.plus) dst.old (map S.bare src.now) }
 {
-    for i in 0..src.len() {
-        dst[i] = dst[i].step(src[i].word(), subtract);
+    for (i, x) in src.iter().enumerate() {
+        dst[i] = dst[i].step(x.word(), subtract);
     }
 }
 
@@ -25,18 +25,17 @@ fn shifted<S: Sort>(out: &mut [S::Word], poly: &[S], p: usize, subtract: bool)
     ensures each { (k : ℕ) → k < length poly.now + 1 → slice_index_or out.new k S.Word.none ≡ (if subtract then S.Word.minus else S.Word.plus) (slice_index_or out.old k S.Word.none) (slice_index_or (map S.bare poly.now) (back (length poly.now + 1) k p) S.Word.none) }
     ensures fit { AllByRecursion S.Word.fits out.new }
 {
-    let n = poly.len();
-    let all = out.len();
-    let split = n.min(all - p);
-    run(&mut out[p..all], &poly[0..split], subtract);
-    run(&mut out[0..p], &poly[split..n], subtract);
+    let (low, high) = out.split_at_mut(p);
+    let (first, rest) = poly.split_at(poly.len().min(high.len()));
+    run(high, first, subtract);
+    run(low, rest, subtract);
 }
 
 fn clear<T: Group>(out: &mut [T])
     ensures { (k : ℕ) → k < length out.new → slice_index_or out.new k T.none ≡ T.none }
 {
-    for i in 0..out.len() {
-        out[i] = T::zero();
+    for x in out.iter_mut() {
+        *x = T::zero();
     }
 }
 
@@ -48,8 +47,7 @@ pub fn multiply<S: Sort>(poly: &[S], secret: &[u16], out: &mut [S::Word])
     ensures { out.new ≡ listed (length poly.now + 1) (cyclic_in S.Word.none S.Word.minus (length poly.now + 1) (λ j. slice_index_or (map S.bare poly.now) j S.Word.none) secret.now) }
 {
     clear(out);
-    for j in 0..secret.len() {
-        let p = secret[j] as usize;
-        shifted(out, poly, p, j % 2 != 0);
+    for (j, p) in secret.iter().enumerate() {
+        shifted(out, poly, *p as usize, j % 2 != 0);
     }
 }

@@ -1,25 +1,16 @@
-// The product at each sort that the kit multiplies, in whole numbers. Every call lends an area of n + 1 words and a secret's positions, which are below n.
-ghost use Rattle.std.specs.Prelude.{◌≡◌, ℕ, ◌+◌, ◌^◌, ◌≤◌, length, unsigned_abs};
-ghost use Rattle.ring.specs.Lists.{words_q, words_p, signed};
+// The product of residues and of signed numbers, in whole numbers. Every call lends an area of n + 1 words and a secret's positions, which are below n.
+ghost use Rattle.std.specs.Prelude.{◌≡◌, ℕ, ◌+◌, ◌^◌, ◌≤◌, length, map, unsigned_abs};
+ghost use Rattle.ring.specs.Lists.{signed};
 ghost use Rattle.ring.specs.Cyclic.{Within, cyclic_words, cyclic_signed};
 
-use crate::sorts::{Coefficient, Rounded};
+use crate::residues::Residue;
 use crate::sparse::multiply;
 
-// Coefficients before rounding: words that hold the product modulo 2^16.
-pub fn multiply_coefficients(poly: &[Coefficient], secret: &[u16], out: &mut [u16])
+// Residues of any sort: words that hold the product modulo 2^16.
+pub fn multiply_residues<R: Residue>(poly: &[R], secret: &[u16], out: &mut [u16])
     requires long { length out.old ≡ length poly.now + 1 }
     requires within { Within (length poly.now) secret.now }
-    ensures { out.new ≡ cyclic_words (length poly.now) (words_q poly.now) secret.now }
-{
-    multiply(poly, secret, out);
-}
-
-// Coefficients after rounding: the same.
-pub fn multiply_rounded(poly: &[Rounded], secret: &[u16], out: &mut [u16])
-    requires long { length out.old ≡ length poly.now + 1 }
-    requires within { Within (length poly.now) secret.now }
-    ensures { out.new ≡ cyclic_words (length poly.now) (words_p poly.now) secret.now }
+    ensures { out.new ≡ cyclic_words (length poly.now) (map R.bare poly.now) secret.now }
 {
     multiply(poly, secret, out);
 }

@@ -19,9 +19,10 @@ returns g c =
     } in
     let off = c.args.subtract in
     let xs = c.args.out.now in
-    let n = length c.args.poly.now in
-    let each = λ (k : ℕ) (lt : k < n + 1).
-    two_parts (cond off m.minus m.plus) g.S.Sort.bare xs c.run.new.dst c.run-2.new.dst c.args.poly.now c.args.p c.min-split.result k m.none c.requires.long c.requires.within (omega arith) c.run.ensures c.run-2.ensures lt
+    let halves = c.split_at_mut-low.ensures in
+    let parts = c.split_at.ensures in
+    let each = λ (k : ℕ) (lt : k < length c.args.poly.now + 1).
+    two_parts (cond off m.minus m.plus) g.S.Sort.bare xs c.run.new.dst c.run-2.new.dst _ _ c.args.poly.now _ _ c.args.p c.min.result k m.none c.requires.long c.requires.within halves.front halves.back (omega arith) parts.front parts.back c.run.ensures c.run-2.ensures lt
     (kept m.none m.plus m.minus m.fits G off (get_or xs k m.none) (All-get_or m.fits xs k m.none (omega arith) c.requires.fit)) in
     record {
       each = each;

@@ -1,0 +1,38 @@
+// Words that stand for residues: of a word and of the three sorts of coefficient the kit's lists are made.
+ghost use Rattle.std.specs.Prelude.{◌≡◌, ℕ};
+ghost use Rattle.std.proofs.Common.{rules};
+
+// A word of 16 bits, or a type of its own around one.
+pub trait Residue: Copy {
+    ghost bare: { Self → ℕ };
+
+    ghost made: { ℕ → Self };
+
+    fn number(self) -> u16
+        ensures { result ≡ bare self };
+
+    fn of(x: u16) -> Self
+        ensures { result ≡ made x };
+
+    ghost back: { (x : ℕ) → bare (made x) ≡ x };
+
+    ghost forth: { (x : Self) → made (bare x) ≡ x };
+}
+
+impl Residue for u16 {
+    ghost bare = { λ x. x };
+
+    ghost made = { λ x. x };
+
+    ghost back = { Prim.search rules };
+
+    ghost forth = { Prim.search rules };
+
+    fn number(self) -> u16 {
+        self
+    }
+
+    fn of(x: u16) -> u16 {
+        x
+    }
+}
