@@ -1,18 +1,9 @@
 -- What the laws of a commutative group give, as far as the product needs it.
 use Rattle.std.proofs.Common.{◌≡◌, ℕ, Bool, true, false, cond, not, List, [], ◌∷◌, sym, ap, ◌∙◌}
+use Rattle.ring.specs.GroupLaws.{GroupLaws}
 use Rattle.ring.specs.Cyclic.{cyclic_in}
 
--- the laws of the trait Group
-pub record Lawful {X : Type 0} (none : X) (plus minus : X → X → X) (fits : X → Type 0) : Type 0 where
-  pub origin : fits none
-  pub sum : (x y : X) → fits (plus x y)
-  pub difference : (x y : X) → fits (minus x y)
-  pub commutes : (x y : X) → plus x y ≡ plus y x
-  pub associates : (x y z : X) → plus (plus x y) z ≡ plus x (plus y z)
-  pub neutral : (x : X) → fits x → plus x none ≡ x
-  pub inverse : (x y : X) → fits x → fits y → plus (minus x y) y ≡ x
-
-module _ {X : Type 0} (none : X) (plus minus : X → X → X) (fits : X → Type 0) (G : Lawful none plus minus fits) where
+module _ {X : Type 0} (none : X) (plus minus : X → X → X) (fits : X → Type 0) (G : GroupLaws none plus minus fits) where
   undone : (u z : X) → fits u → fits z → plus (plus u z) (minus none z) ≡ u
   undone u z fu fz =
       G.associates u z (minus none z)

@@ -1,8 +1,9 @@
 -- The product, one position more: what is in the area, with the rest of the product added or subtracted, is the product.
 use Rattle.std.proofs.Common.{◌≡◌, ℕ, ◌+◌, ◌%◌, ◌<◌, ◌≤◌, Bool, cond, not, eqb, ◌⊎◌, List, length, get_or, drop, sym, ap, ◌∙◌, ⊎_elim, arith}
 use Rattle.std.proofs.lemmas.List.{drop_more, drop_all}
+use Rattle.ring.specs.GroupLaws.{GroupLaws}
 use Rattle.ring.specs.Cyclic.{cyclic_in, back}
-use Rattle.ring.proofs.Algebra.{Lawful, turned, kept, from_none, cyclic_fits}
+use Rattle.ring.proofs.Algebra.{turned, kept, from_none, cyclic_fits}
 
 -- whether the j-th position has the sign -
 abbrev pub odd : ℕ → Bool
@@ -18,7 +19,7 @@ odd_more j =
     (λ e. let f : (j + 1) % 2 ≡ 0 = omega arith in ap (λ n. not (eqb n 0)) f ∙ sym (ap (λ n. not (not (eqb n 0))) e))
     (parity j)
 
-module _ {X : Type 0} (none : X) (plus minus : X → X → X) (fits : X → Type 0) (G : Lawful none plus minus fits) (m : ℕ) (f : ℕ → X) (whole : (j : ℕ) → fits (f j)) (ps : List ℕ) (k : ℕ) where
+module _ {X : Type 0} (none : X) (plus minus : X → X → X) (fits : X → Type 0) (G : GroupLaws none plus minus fits) (m : ℕ) (f : ℕ → X) (whole : (j : ℕ) → fits (f j)) (ps : List ℕ) (k : ℕ) where
   -- what is still to come once j positions are done
   abbrev pub Rest : ℕ → X → Type 0
   Rest j a = cond (odd j) minus plus a (cyclic_in none minus m f (drop j ps) k) ≡ cyclic_in none minus m f ps k

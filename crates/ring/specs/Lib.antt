@@ -1,7 +1,7 @@
+pub mod GroupLaws
 pub mod Words
 pub mod Lists
 pub mod Cyclic
 pub mod Congruence
 pub mod RingLaws
 pub mod Worked
-pub mod I32GroupLemmas

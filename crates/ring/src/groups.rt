@@ -1,10 +1,11 @@
 // Commutative groups, and the two that words form when their sums wrap.
 ghost use Rattle.std.specs.Prelude.{◌≡◌, ◌^◌, ◌<◌, pos, ◌+ℤ◌, ◌-ℤ◌, if◌then◌else◌, FitsSigned};
 ghost use Rattle.std.proofs.Common.{sym, ap, ◌∙◌, rules};
+ghost use Rattle.ring.specs.GroupLaws.{GroupLaws};
 ghost use Rattle.ring.specs.Words.{add16, sub16, add32, sub32};
 ghost use Rattle.std.proofs.lemmas.Int.{SFits-int_wrap, int_wrap-add_left, int_wrap-add_right, int_wrap_fits};
 ghost use Rattle.std.specs.Int.{int_wrap, w32};
-ghost use Rattle.ring.specs.I32GroupLemmas.{moved, same, undone};
+ghost use Rattle.std.proofs.Math.IntN.{+ℤ_assoc, +ℤ_idr, -ℤ-+ℤ_cancel};
 
 use crate::residues::Residue;
 
@@ -38,19 +39,7 @@ pub trait Group: Copy {
         }
     }
 
-    ghost origin: { fits none };
-
-    ghost sum: { (x y : Self) → fits (plus x y) };
-
-    ghost difference: { (x y : Self) → fits (minus x y) };
-
-    ghost commutes: { (x y : Self) → plus x y ≡ plus y x };
-
-    ghost associates: { (x y z : Self) → plus (plus x y) z ≡ plus x (plus y z) };
-
-    ghost neutral: { (x : Self) → fits x → plus x none ≡ x };
-
-    ghost inverse: { (x y : Self) → fits x → fits y → plus (minus x y) y ≡ x };
+    ghost laws: { GroupLaws none plus minus fits };
 }
 
 impl<R: Residue> Group for R {
@@ -62,19 +51,17 @@ impl<R: Residue> Group for R {
 
     ghost fits = { λ x. R.bare x < 2 ^ 16 };
 
-    ghost origin = { Prim.search rules };
-
-    ghost sum = { Prim.search rules };
-
-    ghost difference = { Prim.search rules };
-
-    ghost commutes = { Prim.search rules };
-
-    ghost associates = { Prim.search rules };
-
-    ghost neutral = { Prim.search rules };
-
-    ghost inverse = { Prim.search rules };
+    ghost laws = {
+        record {
+            origin = Prim.search rules;
+            sum = Prim.search rules;
+            difference = Prim.search rules;
+            commutes = Prim.search rules;
+            associates = Prim.search rules;
+            neutral = Prim.search rules;
+            inverse = Prim.search rules;
+        }
+    };
 
     fn zero() -> R {
         R::of(0)
@@ -89,6 +76,7 @@ impl<R: Residue> Group for R {
     }
 }
 
+#[tactic(auto, using(std::proofs::lemmas::Int::wraps))]
 impl Group for i32 {
     ghost none = { pos 0 };
 
@@ -98,19 +86,17 @@ impl Group for i32 {
 
     ghost fits = { λ x. FitsSigned w32 x };
 
-    ghost origin = { Prim.search rules };
-
-    ghost sum = { λ x y. SFits-int_wrap w32 (x +ℤ y) };
-
-    ghost difference = { λ x y. SFits-int_wrap w32 (x -ℤ y) };
-
-    ghost commutes = { Prim.search rules };
-
-    ghost associates = { λ x y z. int_wrap-add_left w32 (x +ℤ y) z ∙ ap (int_wrap w32) (moved x y z) ∙ sym (int_wrap-add_right w32 x (y +ℤ z)) };
-
-    ghost neutral = { λ x h. ap (int_wrap w32) (same x) ∙ int_wrap_fits w32 x h };
-
-    ghost inverse = { λ x y h k. int_wrap-add_left w32 (x -ℤ y) y ∙ ap (int_wrap w32) (undone x y) ∙ int_wrap_fits w32 x h };
+    ghost laws = {
+        record {
+            origin = Prim.search rules;
+            sum = λ x y. SFits-int_wrap w32 (x +ℤ y);
+            difference = λ x y. SFits-int_wrap w32 (x -ℤ y);
+            commutes = Prim.search rules;
+            associates = λ x y z. int_wrap-add_left w32 (x +ℤ y) z ∙ ap (int_wrap w32) (+ℤ_assoc x y z) ∙ sym (int_wrap-add_right w32 x (y +ℤ z));
+            neutral = λ x h. ap (int_wrap w32) (+ℤ_idr x) ∙ int_wrap_fits w32 x h;
+            inverse = λ x y h k. int_wrap-add_left w32 (x -ℤ y) y ∙ ap (int_wrap w32) (-ℤ-+ℤ_cancel x y) ∙ int_wrap_fits w32 x h;
+        }
+    };
 
     fn zero() -> i32 {
         0

@@ -15,9 +15,3 @@ loop-i-preserved g c =
     let within : i < length (map f xs) = omega (arith, length-map xs f) in
     let read = c.word.ensures ∙ ap f c.index-src-i.is ∙ sym (get_or-map f xs i c.index-src-i.result c.word.result (omega arith)) in
     along_more _ c.args.dst.now (map f xs) _ i _ _ _ c.loop-i.invariant (omega arith) within c.index-dst-i.is read c.step.ensures
-
-pub returns : goal.returns
-returns g c =
-    let xs = map g.S.Sort.bare c.args.src.now in
-    let long : length xs ≤ c.loop-i.i = omega (arith, length-map c.args.src.now g.S.Sort.bare) in
-    c.loop-i.invariant ∙ ap (along (cond c.args.subtract g.S.Word.Group.minus g.S.Word.Group.plus) c.args.dst.now) (take_all c.loop-i.i xs long)

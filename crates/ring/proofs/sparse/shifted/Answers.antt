@@ -1,22 +1,13 @@
 use Rattle.std.proofs.Common.{ℕ, ◌+◌, ◌<◌, cond, length, get_or, sym, subst, arith}
 use Rattle.std.proofs.ByRecursion.{All-from_get_or, All-get_or}
-use Rattle.ring.proofs.Algebra.{Lawful, kept, step_fits}
+use Rattle.ring.proofs.Algebra.{kept, step_fits}
 use Rattle.ring.proofs.Runs.{two_parts}
 use Rattle.ring.proofs.sparse.shifted.Goals as goal
 
 pub returns : goal.returns
 returns g c =
     let m = g.S.Word.Group in
-    let l = g.met.S.Word.Group in
-    let G : Lawful m.none m.plus m.minus m.fits = record {
-      origin = l.origin;
-      sum = l.sum;
-      difference = l.difference;
-      commutes = l.commutes;
-      associates = l.associates;
-      neutral = l.neutral;
-      inverse = l.inverse;
-    } in
+    let G = g.met.S.Word.Group.laws in
     let off = c.args.subtract in
     let xs = c.args.out.now in
     let halves = c.split_at_mut-low.ensures in
