@@ -4,7 +4,7 @@
 ghost use Rattle.std.specs.Prelude.{◌≡◌, length};
 ghost use Rattle.ring.specs.Cyclic.{Within};
 
-use ring::{Coefficient, multiply_coefficients};
+use ring::{Coefficient, multiply_residues};
 use std::io;
 
 const N: usize = 1018;
@@ -17,9 +17,9 @@ fn next(state: u32) -> u32 {
 
 fn fill_poly(poly: &mut [Coefficient], seed: u32) -> u32 {
     let mut state = seed;
-    for i in 0..poly.len() {
+    for x in poly.iter_mut() {
         state = next(state);
-        poly[i] = Coefficient((state >> 16) as u16);
+        *x = Coefficient((state >> 16) as u16);
     }
     state
 }
@@ -28,9 +28,9 @@ fn fill_secret(secret: &mut [u16], seed: u32)
     ensures { Within 1018 secret.new }
 {
     let mut state = seed;
-    for i in 0..secret.len() {
+    for p in secret.iter_mut() {
         state = next(state);
-        secret[i] = ((state >> 16) % 1018) as u16;
+        *p = ((state >> 16) % 1018) as u16;
     }
 }
 
@@ -42,7 +42,7 @@ fn products(poly: &mut [Coefficient], secret: &[u16], out: &mut [u16]) -> u32
 {
     let mut sum = 0u32;
     for i in 0..ROUNDS {
-        multiply_coefficients(poly, secret, out);
+        multiply_residues(poly, secret, out);
         let x = out[i % (N + 1)];
         poly[i % N] = Coefficient(poly[i % N].0.wrapping_add(x));
         sum = sum.wrapping_mul(31).wrapping_add(x as u32);
