@@ -10,7 +10,7 @@ ghost use Rattle.lab.specs.Lab.{gauge_checks, gauging, gauged, noise_between};
 use calls::{AREA_WORDS, Buffer, Input, Refusal, Wiped, expect, expect_areas};
 use params::MOST_N;
 use params::set::Set;
-use ring::{Coefficient, Rounded, multiply_coefficients, multiply_rounded, multiply_signed};
+use ring::{Coefficient, Rounded, multiply_residues, multiply_signed};
 use rounding::{noise, out_of_band, round_product, slips};
 use sampler::SamplerFault;
 use scheme::{expand_polynomial, expand_positions};
@@ -50,7 +50,7 @@ fn slips_of(set: &Set, a: &[Coefficient], secret: &[u16], product: &mut [u16], o
     ensures value { out.new ≡ slips set.now.moduli set.now.n (words_q a.now) secret.now }
     ensures near { (k : ℕ) → unsigned_abs (signed out.new k) ≤ 2 ^ 14 }
 {
-    multiply_coefficients(a, secret, product);
+    multiply_residues(a, secret, product);
     slips(set.moduli, product, out);
 }
 
@@ -72,7 +72,7 @@ fn rounded_and_slips(
     ensures value { out.new ≡ slips set.now.moduli set.now.n (words_q a.now) secret.now }
     ensures near { (k : ℕ) → unsigned_abs (signed out.new k) ≤ 2 ^ 14 }
 {
-    multiply_coefficients(a, secret, product);
+    multiply_residues(a, secret, product);
     round_product(set.moduli, product, b);
     slips(set.moduli, product, out);
 }
@@ -109,7 +109,7 @@ fn noise_with(
     slips_of(set, a, station, product, station_slips);
     multiply_signed(till_slips, station, first);
     multiply_signed(station_slips, till, second);
-    multiply_rounded(b, station, product);
+    multiply_residues(b, station, product);
     noise(set.moduli, first, second, product, out);
 }
 

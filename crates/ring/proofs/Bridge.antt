@@ -2,6 +2,7 @@
 use Rattle.std.proofs.Common.{◌≡◌, ℕ, ◌+◌, ◌*◌, ◌%◌, ◌^◌, ◌≤◌, List, map, length, get_or, ℤ, pos, ◌-ℤ◌, nat_abs, sym, refl, ap, ◌∙◌, arith, lit<, w32, SFits}
 use mathlib.Core.Path.{fun_ext}
 use borrow.Author.Differences.{ints}
+use Rattle.std.proofs.Math.ListN.{get_or-map}
 use Rattle.std.specs.Int.{int_wrap}
 use Rattle.std.proofs.lemmas.Int.{int_wrap_fits, int_wrap-add_left, int_wrap-sub_right}
 use Rattle.ring.specs.Words.{sub16, sub32}
@@ -9,7 +10,7 @@ use Rattle.ring.specs.Lists.{listed, whole, signed}
 use Rattle.ring.specs.Cyclic.{cyclic_in, cyclic, mod_z, cyclic_words, cyclic_signed}
 use Rattle.ring.proofs.Congruences.{mod_z_sub}
 use Rattle.ring.proofs.CyclicLaws.{cyclic_map, cyclic_bound}
-use Rattle.ring.proofs.Listing.{get_d_map_any, get_d_listed, length_listed, listed_holds}
+use Rattle.ring.proofs.Listing.{get_d_listed, length_listed, listed_holds}
 
 -- a polynomial of any sort over words of 16 bits
 pub words_product : {X : Type 0} (word : X → ℕ) (d : X) → word d ≡ 0 → (xs : List X) (ps : List ℕ)
@@ -19,8 +20,8 @@ words_product word d zero xs ps =
     let m = length xs + 1 in
     let place : (j : ℕ) → get_or (map (λ x. word x % 2 ^ 16) xs) j 0 ≡ mod_z (2 ^ 16) (whole (map word xs) j) = λ j.
     ap (λ e. get_or (map (λ x. word x % 2 ^ 16) xs) j (e % 2 ^ 16)) (sym zero)
-    ∙ get_d_map_any (λ x. word x % 2 ^ 16) d xs j
-    ∙ ap (λ y. y % 2 ^ 16) (sym (get_d_map_any word d xs j) ∙ ap (get_or (map word xs) j) zero) in
+    ∙ get_or-map (λ x. word x % 2 ^ 16) xs j d
+    ∙ ap (λ y. y % 2 ^ 16) (sym (get_or-map word xs j d) ∙ ap (get_or (map word xs) j) zero) in
     ap (listed m) (fun_ext (λ k.
     ap (λ f. cyclic_in 0 sub16 m f ps k) (fun_ext place)
     ∙ sym (cyclic_map (mod_z (2 ^ 16)) (pos 0) ◌-ℤ◌ 0 sub16 refl (mod_z_sub (2 ^ 16) (lit< tt)) m (whole (map word xs)) ps k)))
@@ -39,7 +40,7 @@ signed_product zs ps near few =
     let m = length zs + 1 in
     let zero : int_wrap w32 (pos 0) ≡ pos 0 = int_wrap_fits w32 (pos 0) (near_fits (pos 0) (omega arith)) in
     let place : (j : ℕ) → get_or (map (λ x. int_wrap w32 x) zs) j (pos 0) ≡ int_wrap w32 (signed zs j) = λ j.
-    ap (get_or (map (λ x. int_wrap w32 x) zs) j) (sym zero) ∙ get_d_map_any (λ x. int_wrap w32 x) (pos 0) zs j in
+    ap (get_or (map (λ x. int_wrap w32 x) zs) j) (sym zero) ∙ get_or-map (λ x. int_wrap w32 x) zs j (pos 0) in
     ap (listed m) (fun_ext (λ k.
     ap (λ f. cyclic_in (pos 0) sub32 m f ps k) (fun_ext place)
     ∙ sym (cyclic_map (int_wrap w32) (pos 0) ◌-ℤ◌ (pos 0) sub32 zero wrapped_sub m (signed zs) ps k)

@@ -1,5 +1,6 @@
 -- What the laws of a product give of any ring's product.
 use Rattle.std.proofs.Common.{◌≡◌, ℕ, zero, suc, ◌≤◌, List, ℤ, pos, ◌+ℤ◌, ◌-ℤ◌, ◌*ℤ◌, sym, ap, ◌∙◌, arith}
+use Rattle.std.proofs.Math.IntN.{zero-*ℤ, -ℤ-+ℤ_cancel}
 use mathlib.Core.Path.{fun_ext}
 use borrow.Author.Differences.{ints}
 use Rattle.ring.specs.Cyclic.{mod_z}
@@ -10,14 +11,8 @@ use Rattle.ring.proofs.Congruences.{cong_same, cong_sym, cong_trans, mod_z_cong,
 less : (x y z : ℤ) → x ≡ y +ℤ z → y ≡ x -ℤ z
 less x y z e = omega (arith, ints)
 
-again : (x y : ℤ) → x ≡ (x -ℤ y) +ℤ y
-again x y = omega (arith, ints)
-
 none : (x : ℤ) → x ≡ x +ℤ x → x ≡ pos 0
 none x e = omega (arith, ints)
-
-zero_times : (x : ℤ) → pos 0 *ℤ x ≡ pos 0
-zero_times x = omega (arith, ints)
 
 suc_times : (d : ℕ) (x : ℤ) → pos (suc d) *ℤ x ≡ x +ℤ pos d *ℤ x
 suc_times d x = omega (arith, ints)
@@ -27,13 +22,13 @@ module _ {n : ℕ} {times : (ℕ → ℤ) → List ℕ → ℕ → ℤ} (L : Mul
   times_same f g e = ap (λ h. times h s i) (fun_ext e)
 
   pub times_sub : (f g : ℕ → ℤ) → times (λ j. f j -ℤ g j) s i ≡ times f s i -ℤ times g s i
-  times_sub f g = less (times f s i) (times (λ j. f j -ℤ g j) s i) (times g s i) (times_same f (λ j. (f j -ℤ g j) +ℤ g j) (λ j. again (f j) (g j)) ∙ L.additive (λ j. f j -ℤ g j) g s i)
+  times_sub f g = less (times f s i) (times (λ j. f j -ℤ g j) s i) (times g s i) (times_same f (λ j. (f j -ℤ g j) +ℤ g j) (λ j. sym (-ℤ-+ℤ_cancel (f j) (g j))) ∙ L.additive (λ j. f j -ℤ g j) g s i)
 
   pub times_zero : times (λ _. pos 0) s i ≡ pos 0
   times_zero = none (times (λ _. pos 0) s i) (L.additive (λ _. pos 0) (λ _. pos 0) s i)
 
   pub times_scale : (d : ℕ) (f : ℕ → ℤ) → times (λ j. pos d *ℤ f j) s i ≡ pos d *ℤ times f s i
-  times_scale zero f = times_same (λ j. pos 0 *ℤ f j) (λ _. pos 0) (λ j. zero_times (f j)) ∙ times_zero ∙ sym (zero_times (times f s i))
+  times_scale zero f = times_same (λ j. pos 0 *ℤ f j) (λ _. pos 0) (λ j. zero-*ℤ (f j)) ∙ times_zero ∙ sym (zero-*ℤ (times f s i))
   times_scale (suc d) f =
       times_same (λ j. pos (suc d) *ℤ f j) (λ j. f j +ℤ pos d *ℤ f j) (λ j. suc_times d (f j))
       ∙ L.additive f (λ j. pos d *ℤ f j) s i

@@ -51,17 +51,15 @@ impl<R: Residue> Group for R {
 
     ghost fits = { λ x. R.bare x < 2 ^ 16 };
 
-    ghost laws = {
-        record {
-            origin = Prim.search rules;
-            sum = Prim.search rules;
-            difference = Prim.search rules;
-            commutes = Prim.search rules;
-            associates = Prim.search rules;
-            neutral = Prim.search rules;
-            inverse = Prim.search rules;
-        }
-    };
+    ghost laws = { record {
+      origin = Prim.search rules;
+      sum = Prim.search rules;
+      difference = Prim.search rules;
+      commutes = Prim.search rules;
+      associates = Prim.search rules;
+      neutral = Prim.search rules;
+      inverse = Prim.search rules;
+    } };
 
     fn zero() -> R {
         R::of(0)
@@ -86,17 +84,15 @@ impl Group for i32 {
 
     ghost fits = { λ x. FitsSigned w32 x };
 
-    ghost laws = {
-        record {
-            origin = Prim.search rules;
-            sum = λ x y. SFits-int_wrap w32 (x +ℤ y);
-            difference = λ x y. SFits-int_wrap w32 (x -ℤ y);
-            commutes = Prim.search rules;
-            associates = λ x y z. int_wrap-add_left w32 (x +ℤ y) z ∙ ap (int_wrap w32) (+ℤ_assoc x y z) ∙ sym (int_wrap-add_right w32 x (y +ℤ z));
-            neutral = λ x h. ap (int_wrap w32) (+ℤ_idr x) ∙ int_wrap_fits w32 x h;
-            inverse = λ x y h k. int_wrap-add_left w32 (x -ℤ y) y ∙ ap (int_wrap w32) (-ℤ-+ℤ_cancel x y) ∙ int_wrap_fits w32 x h;
-        }
-    };
+    ghost laws = { record {
+      origin = Prim.search rules;
+      sum = λ x y. SFits-int_wrap w32 (x +ℤ y);
+      difference = λ x y. SFits-int_wrap w32 (x -ℤ y);
+      commutes = Prim.search rules;
+      associates = λ x y z. int_wrap-add_left w32 (x +ℤ y) z ∙ ap (int_wrap w32) (+ℤ_assoc x y z) ∙ sym (int_wrap-add_right w32 x (y +ℤ z));
+      neutral = λ x h. ap (int_wrap w32) (+ℤ_idr x) ∙ int_wrap_fits w32 x h;
+      inverse = λ x y h k. int_wrap-add_left w32 (x -ℤ y) y ∙ ap (int_wrap w32) (-ℤ-+ℤ_cancel x y) ∙ int_wrap_fits w32 x h;
+    } };
 
     fn zero() -> i32 {
         0

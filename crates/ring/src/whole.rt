@@ -12,7 +12,7 @@ pub fn multiply_residues<R: Residue>(poly: &[R], secret: &[u16], out: &mut [u16]
     requires within { Within (length poly.now) secret.now }
     ensures { out.new ≡ cyclic_words (length poly.now) (map R.bare poly.now) secret.now }
 {
-    multiply(poly, secret, out);
+    multiply::<R>(poly, secret, out);
 }
 
 // Signed numbers: the product itself. Rounding errors are below 2^14 in size, and a secret has at most 1,200 positions, so that none wraps.

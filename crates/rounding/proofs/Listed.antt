@@ -4,11 +4,12 @@ use Rattle.std.proofs.lemmas.List.{length-map, get_or_past}
 use Rattle.std.proofs.lemmas.Bool.{cases_lt, cond-false, le-ltb}
 use Rattle.params.specs.Sizes.{q, p}
 use Rattle.params.specs.declared.moduli.Moduli.{Moduli}
+use Rattle.std.proofs.Math.ListN.{get_or-map}
 use Rattle.ring.specs.Words.{sub16}
 use Rattle.ring.specs.Lists.{listed, whole, signed}
 use Rattle.ring.specs.Cyclic.{cyclic, mod_z, cyclic_words}
 use Rattle.ring.proofs.Congruences.{mod_z_sub, mod_z_cut}
-use Rattle.ring.proofs.Listing.{length_listed, get_d_listed, listed_by, get_d_map_any}
+use Rattle.ring.proofs.Listing.{length_listed, get_d_listed, listed_by}
 use Rattle.ring.proofs.CyclicLaws.{reduced_is}
 use Rattle.ring.proofs.Bridge.{length_cyclic_words, get_d_cyclic_words}
 use Rattle.rounding.specs.Rounding.{rounded, symbol, raw_bit, slip, noise}
@@ -103,7 +104,7 @@ module _ (M : Moduli) (n : ℕ) (a s ws : List ℕ) (e : ws ≡ cyclic_words n a
       let whole_length = long n a s ws e in
       let m-is : m ≡ n = omega arith in
       listed_by n _ (map word out) (word d) (omega (arith, length-map out word)) (λ k lt.
-      get_d_map_any word d out k ∙ each k (omega arith) ∙ ap (λ l. rounded M (sub16 (get_or ws k 0) (get_or ws l 0) % q M)) m-is ∙ ap (rounded M) (residue_is M n a s ws e k (omega arith)))
+      get_or-map word out k d ∙ each k (omega arith) ∙ ap (λ l. rounded M (sub16 (get_or ws k 0) (get_or ws l 0) % q M)) m-is ∙ ap (rounded M) (residue_is M n a s ws e k (omega arith)))
 
   pub slip_list : (out : List ℤ) (m : ℕ) → m ≡ length out → length ws ≡ m + 1
       → ((k : ℕ) → k < m → signed out k ≡ slip M (sub16 (get_or ws k 0) (get_or ws m 0) % q M)) → out ≡ slips M n a s
@@ -120,7 +121,7 @@ module _ (M : Moduli) (n : ℕ) (a s ws : List ℕ) (e : ws ≡ cyclic_words n a
   symbol_list word d none bits out same room each =
       let whole_length = long n a s ws e in
       listed_by (length bits) _ (map word out) (word d) (length-map out word ∙ same) (λ k lt.
-      get_d_map_any word d out k ∙ each k (omega arith) ∙ ap (λ x. symbol M x (get_or bits k 0)) (cross_is M n a s ws e k (omega arith)))
+      get_or-map word out k d ∙ each k (omega arith) ∙ ap (λ x. symbol M x (get_or bits k 0)) (cross_is M n a s ws e k (omega arith)))
 
   pub raw_list : {X : Type 0} (word : X → ℕ) (d : X) → word d ≡ 0 → (sent : List X) (out : List ℕ) → length out ≡ length sent → length out ≤ length ws
       → ((k : ℕ) → k < length out → get_or out k 0 ≡ raw_bit M (word (get_or sent k d)) (get_or ws k 0 % p M)) → out ≡ raw_bits M (map word sent) (cross_product M n a s)
@@ -129,7 +130,7 @@ module _ (M : Moduli) (n : ℕ) (a s ws : List ℕ) (e : ws ≡ cyclic_words n a
       let whole_length = long n a s ws e in
       listed_by (length (map word sent)) _ out 0 (same ∙ sym (length-map sent word)) (λ k lt.
       each k (omega (arith, length-map sent word))
-      ∙ ap₂ (raw_bit M) (sym (get_d_map_any word d sent k) ∙ ap (get_or (map word sent) k) none) (cross_is M n a s ws e k (omega (arith, length-map sent word))))
+      ∙ ap₂ (raw_bit M) (sym (get_or-map word sent k d) ∙ ap (get_or (map word sent) k) none) (cross_is M n a s ws e k (omega (arith, length-map sent word))))
 
   pub noise_list : (f g out : List ℤ) (μ : ℕ) → length out ≡ μ → μ ≤ length ws
       → ((k : ℕ) → k < μ → signed out k ≡ noise M (signed f k -ℤ signed g k) (get_or ws k 0 % p M)) → out ≡ noises M μ f g (cross_product M n a s)

@@ -5,7 +5,7 @@ use Rattle.std.proofs.ByRecursion.{All-get_or}
 use Rattle.ring.specs.Lists.{words_q}
 use Rattle.ring.specs.Cyclic.{Within}
 use Rattle.ring.specs.declared.sorts.Coefficient.{Coefficient}
-use Rattle.ring.proofs.Listing.{get_d_map_any}
+use Rattle.std.proofs.Math.ListN.{get_or-map}
 use Rattle.sampler.specs.Facts.{Picked}
 use Rattle.sampler.specs.declared.SamplerFault.{SamplerFault}
 
@@ -14,7 +14,7 @@ pub coefficient_words : (xs : List Coefficient) (ws : List ℕ) → length xs �
     → ((k : ℕ) → k < length ws → (get_or xs k (record { 0 = 0 })).0 ≡ get_or ws k 0) → words_q xs ≡ ws
 coefficient_words xs ws long each =
     let same : length (words_q xs) ≡ length xs = length-map xs (λ (x : Coefficient). x.0) in
-    ext_get_or 0 (words_q xs) ws (same ∙ long) (λ k h. get_d_map_any (λ (x : Coefficient). x.0) (record { 0 = 0 }) xs k ∙ each k (omega arith))
+    ext_get_or 0 (words_q xs) ws (same ∙ long) (λ k h. get_or-map (λ (x : Coefficient). x.0) xs k (record { 0 = 0 }) ∙ each k (omega arith))
 
 -- picked positions are below n
 pub picked_within : (n h : ℕ) (out : List ℕ) (r : Result (Unit {0}) SamplerFault) (Q : SamplerFault → Type 0)

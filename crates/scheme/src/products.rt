@@ -7,7 +7,7 @@ ghost use Rattle.rounding.specs.Symbols.{rounded_product, cross_product, symbols
 
 use code::encode;
 use params::set::Set;
-use ring::{Coefficient, Rounded, Symbol, multiply_coefficients, multiply_rounded};
+use ring::{Coefficient, Rounded, Symbol, multiply_residues};
 use rounding::{raw_bits, round_product, symbols};
 
 /// The rounded reduced product of a and a secret. Publish, seal and open lend n + 1 words and n coefficients, and expanded the positions for
@@ -25,7 +25,7 @@ pub fn round_times(
     requires out { length out.old ≡ set.now.n }
     ensures { words_p out.new ≡ rounded_product set.now.moduli set.now.n (words_q a.now) secret.now }
 {
-    multiply_coefficients(a, secret, product);
+    multiply_residues(a, secret, product);
     round_product(set.moduli, product, out);
 }
 
@@ -45,7 +45,7 @@ fn hide(
     requires out { length out.old ≡ set.now.code.mu }
     ensures { words_t out.new ≡ symbols set.now.moduli (cross_product set.now.moduli set.now.n (words_p b.now) secret.now) word.now }
 {
-    multiply_rounded(b, secret, product);
+    multiply_residues(b, secret, product);
     symbols(set.moduli, product, word, out);
 }
 
@@ -87,6 +87,6 @@ pub(crate) fn read_bits(
     requires out { length out.old ≡ set.now.code.mu }
     ensures { out.new ≡ raw_bits set.now.moduli (words_t v.now) (cross_product set.now.moduli set.now.n (words_p u.now) secret.now) }
 {
-    multiply_rounded(u, secret, product);
+    multiply_residues(u, secret, product);
     raw_bits(set.moduli, v, product, out);
 }

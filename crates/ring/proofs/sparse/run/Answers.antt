@@ -1,6 +1,5 @@
-use Rattle.std.proofs.Common.{◌<◌, ◌≤◌, cond, map, length, sym, ap, ◌∙◌, arith}
-use Rattle.ring.specs.Cyclic.{along}
-use Rattle.std.proofs.lemmas.List.{take_all, get_or-map, length-map}
+use Rattle.std.proofs.Common.{◌<◌, map, length, sym, ap, ◌∙◌, arith}
+use Rattle.std.proofs.lemmas.List.{get_or-map, length-map}
 use Rattle.ring.proofs.Runs.{along_nil, along_more}
 use Rattle.ring.proofs.sparse.run.Goals as goal
 
