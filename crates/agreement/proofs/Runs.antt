@@ -1,5 +1,5 @@
 -- After any run a publish has bytes enough.
-use Rattle.std.proofs.Common.{◌≡◌, ℕ, Bool, true, false, cond, leb, List, Ok, Err, refl, arith}
+use Rattle.std.proofs.Common.{◌≡◌, ℕ, Bool, true, false, cond, leb, List, Ok, Err, refl, arith, Option, Some, None}
 use Rattle.params.specs.Sizes.{key_length}
 use Rattle.params.specs.declared.set.Set.{Set}
 use Rattle.calls.specs.Areas.{area_words}
@@ -9,8 +9,6 @@ use Rattle.calls.specs.declared.refusal.Refusal.TheVariants.{WrongBuffer, NoSuch
 use Rattle.scheme.specs.Scheme.{public_polynomial, secret_positions, key_from}
 use Rattle.rack.specs.Calls.{Places, place_count, all_empty, at, coins_key, known_place, held, coins_at, expands}
 use Rattle.rack.specs.declared.record.Coins.{Coins}
-use Rattle.rack.specs.declared.record.Record.{Record}
-use Rattle.rack.specs.declared.record.Record.TheVariants.{Empty, Held}
 use Rattle.agreement.specs.Runs.{run}
 use Rattle.agreement.specs.Agreement.{Publishes}
 use Rattle.agreement.proofs.Binds.{bind_ok, bind_is, Enough, enough_bind, enough_sized, enough_lift}
@@ -27,9 +25,9 @@ place_test : (i : ℕ) (t : Bool) → Enough {X = Unit {0}} (cond t (Err (NoSuch
 place_test i true e p = let z : ◌≡◌ {A = ℕ} 0 1 = cc in omega arith
 place_test i false e p = let z : ◌≡◌ {A = ℕ} 0 1 = cc in omega arith
 
-held_enough : (i : ℕ) (p : Record) → Enough (held i p)
-held_enough i Empty e q = let z : ◌≡◌ {A = ℕ} 0 1 = cc in omega arith
-held_enough i (Held c) e q = let z : ◌≡◌ {A = ℕ} 0 1 = cc in omega arith
+held_enough : (i : ℕ) (p : Option Coins) → Enough (held i p)
+held_enough i None e q = let z : ◌≡◌ {A = ℕ} 0 1 = cc in omega arith
+held_enough i (Some c) e q = let z : ◌≡◌ {A = ℕ} 0 1 = cc in omega arith
 
 areas_enough : (secret_words product_words : ℕ) → Enough (areas_fit secret_words product_words)
 areas_enough secret_words product_words =

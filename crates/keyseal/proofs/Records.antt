@@ -1,15 +1,14 @@
 -- What four places of C hold, and what becomes of them.
-use Rattle.std.proofs.Common.{◌≡◌, ℕ, ◌<◌, true, false, cond, leb, List, [], ◌∷◌, length, get_or, set, Ok, Err, sym, refl, ap, ◌∙◌, arith}
+use Rattle.std.proofs.Common.{◌≡◌, ℕ, ◌<◌, true, false, cond, leb, List, [], ◌∷◌, length, get_or, set, Ok, Err, sym, refl, ap, ◌∙◌, arith, Option, Some, None}
 use Rattle.std.proofs.lemmas.List.{get_or-map, map-set}
 use Rattle.std.proofs.lemmas.Bool.{lt-leb}
 use Rattle.params.specs.declared.set.Set.{Set}
 use Rattle.calls.specs.Chains.{Book, bind, lift}
 use Rattle.calls.specs.declared.refusal.Refusal.TheVariants.{EmptyPlace}
 use Rattle.rack.specs.Calls.{Places, place_count, at, coins_from, held, expands, issue_checks, issued, retired}
-use Rattle.rack.specs.declared.record.Record.{Record}
-use Rattle.rack.specs.declared.record.Record.TheVariants.{Empty, Held}
 use Rattle.keyseal.specs.Places.{record_of, records, in_use, with_coins, cleared, emptied}
 use Rattle.keyseal.specs.declared.layout.Place.{Place}
+use Rattle.rack.specs.declared.record.Coins.{Coins}
 use Rattle.keyseal.proofs.Steps.{bind_ok}
 
 -- the records of four places, one by one
@@ -22,23 +21,23 @@ four_records d (a ∷ b ∷ e ∷ f ∷ []) h = refl
 four_records d (a ∷ b ∷ e ∷ f ∷ g ∷ more) h = absurd (omega arith)
 
 -- a place that there is, retired by the record that it has
-retired_by : (rs : Places) (i : ℕ) (p : Record) → i < place_count → at rs i ≡ p → retired rs i ≡ bind (held i p) (λ _. Ok (set rs i Empty))
+retired_by : (rs : Places) (i : ℕ) (p : Option Coins) → i < place_count → at rs i ≡ p → retired rs i ≡ bind (held i p) (λ _. Ok (set rs i None))
 retired_by rs i p l e = let t : leb place_count i ≡ false = lt-leb place_count i l in rw (t, e) refl
 
 record_at : (ps : List Place) (i : ℕ) (d : Place) → i < length ps → at (records ps) i ≡ record_of (get_or ps i d)
-record_at ps i d l = get_or-map record_of ps i d Empty l
+record_at ps i d l = get_or-map record_of ps i d None l
 
 -- an empty place is refused
 pub retired_empty : (ps : List Place) (i : ℕ) (d : Place) → length ps ≡ place_count → i < place_count → (get_or ps i d).held ≡ false → retired (records ps) i ≡ Err (EmptyPlace i)
 retired_empty ps i d n l e =
     let p = get_or ps i d in
-    retired_by (records ps) i Empty l (record_at ps i d (omega arith) ∙ ap (λ b. cond b (Held (coins_from p.coins)) Empty) e)
+    retired_by (records ps) i None l (record_at ps i d (omega arith) ∙ ap (λ b. cond b (Some (coins_from p.coins)) None) e)
 
 -- and one in use is emptied
 pub retired_held : (ps : List Place) (i : ℕ) (d : Place) → length ps ≡ place_count → i < place_count → (get_or ps i d).held ≡ true → retired (records ps) i ≡ Ok (records (emptied ps i))
 retired_held ps i d n l e =
     let p = get_or ps i d in
-    retired_by (records ps) i (Held (coins_from p.coins)) l (record_at ps i d (omega arith) ∙ ap (λ b. cond b (Held (coins_from p.coins)) Empty) e)
+    retired_by (records ps) i (Some (coins_from p.coins)) l (record_at ps i d (omega arith) ∙ ap (λ b. cond b (Some (coins_from p.coins)) None) e)
     ∙ ap Ok (sym (map-set record_of ps i cleared))
 
 -- coins that issue keeps are those put into the place

@@ -1,14 +1,13 @@
 -- The places of a rack as C holds them, and what they mean.
-use Rattle.std.specs.Prelude.{ℕ, true, false, cond, List, [], ◌∷◌, map, replicate, slice_set}
+use Rattle.std.specs.Prelude.{ℕ, true, false, cond, List, [], ◌∷◌, map, replicate, slice_set, Option, Some, None}
 use Rattle.rack.specs.Calls.{coins_from}
 use Rattle.rack.specs.Calls as calls
-use Rattle.rack.specs.declared.record.Record.{Record}
-use Rattle.rack.specs.declared.record.Record.TheVariants.{Empty, Held}
+use Rattle.rack.specs.declared.record.Coins.{Coins}
 use Rattle.keyseal.specs.declared.layout.Place.{Place}
 
 -- what a place holds; the bytes of an empty place count for nothing
-abbrev pub record_of : Place → Record
-record_of p = cond p.held (Held (coins_from p.coins)) Empty
+abbrev pub record_of : Place → Option Coins
+record_of p = cond p.held (Some (coins_from p.coins)) None
 
 abbrev pub records : List Place → calls.Places
 records ps = map record_of ps
@@ -33,4 +32,4 @@ emptied ps i = slice_set ps i cleared
 
 -- the places of a rack with coins at place 0 alone
 abbrev pub coins_alone : List ℕ → calls.Places
-coins_alone xs = Held (coins_from xs) ∷ Empty ∷ Empty ∷ Empty ∷ []
+coins_alone xs = Some (coins_from xs) ∷ None ∷ None ∷ None ∷ []

@@ -27,9 +27,9 @@ fn record_of(place: &Place) -> Record
     ensures { result ≡ record_of place.now }
 {
     if place.held {
-        Record::Held(coins_of(&place.coins))
+        Some(coins_of(&place.coins))
     } else {
-        Record::Empty
+        None
     }
 }
 

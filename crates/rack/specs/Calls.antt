@@ -1,5 +1,5 @@
 -- What each call on a rack answers, and what its places hold then.
-use Rattle.std.specs.Prelude.{ℕ, Bool, true, false, cond, ◌&&◌, List, [], ◌∷◌, length, take, drop, replicate, Ok, Err, Result, ◌==◌, nat_le, slice_index_or, slice_set}
+use Rattle.std.specs.Prelude.{ℕ, Bool, true, false, cond, ◌&&◌, List, [], ◌∷◌, length, take, drop, replicate, Ok, Err, Result, ◌==◌, nat_le, slice_index_or, slice_set, Option, Some, None}
 use Rattle.params.specs.Sizes.{key_length, parcel_length}
 use Rattle.params.specs.declared.set.Set.{Set}
 use Rattle.sampler.specs.declared.SamplerFault.{SamplerFault}
@@ -12,12 +12,10 @@ use Rattle.calls.specs.declared.refusal.Refusal.{Refusal}
 use Rattle.calls.specs.declared.refusal.Refusal.TheVariants.{NoSuchPlace, EmptyPlace, PlaceInUse, WrongBuffer, WrongInput}
 use Rattle.scheme.specs.Scheme.{public_polynomial, secret_positions, key_from, key_of, encrypted, l_of, secret_from, message_in}
 use Rattle.rack.specs.declared.record.Coins.{Coins}
-use Rattle.rack.specs.declared.record.Record.{Record}
-use Rattle.rack.specs.declared.record.Record.TheVariants.{Empty, Held}
 
 -- the places of a rack, each a record
 abbrev pub Places : Type 0
-Places = List Record
+Places = List (Option Coins)
 
 -- how many places a rack has
 abbrev pub place_count : ℕ
@@ -25,11 +23,11 @@ place_count = 4
 
 -- the places of a rack just made
 abbrev pub all_empty : Places
-all_empty = replicate place_count Empty
+all_empty = replicate place_count None
 
 -- the record of a place
-abbrev pub at : Places → ℕ → Record
-at ps i = slice_index_or ps i Empty
+abbrev pub at : Places → ℕ → Option Coins
+at ps i = slice_index_or ps i None
 
 -- coins: σ, the seed of the till's secret, and z
 abbrev pub coins_from : List ℕ → Coins
@@ -44,14 +42,14 @@ abbrev pub known_place : ℕ → Check
 known_place i = cond (nat_le place_count i) (Err (NoSuchPlace i)) (Ok tt)
 
 -- the coins of a record that holds some
-abbrev pub held : ℕ → Record → Result Coins Refusal
-held i Empty = Err (EmptyPlace i)
-held i (Held c) = Ok c
+abbrev pub held : ℕ → Option Coins → Result Coins Refusal
+held i None = Err (EmptyPlace i)
+held i (Some c) = Ok c
 
 -- a record that is empty
-abbrev pub unused : ℕ → Record → Check
-unused i Empty = Ok tt
-unused i (Held c) = Err (PlaceInUse i)
+abbrev pub unused : ℕ → Option Coins → Check
+unused i None = Ok tt
+unused i (Some c) = Err (PlaceInUse i)
 
 -- the coins at a place
 abbrev pub coins_at : Places → ℕ → Result Coins Refusal
@@ -72,7 +70,7 @@ abbrev pub issued : Book → Set → Places → ℕ → ℕ → ℕ → List ℕ
 issued B s ps i secret_words product_words xs =
     bind (issue_checks ps i secret_words product_words xs) (λ _.
     bind (lift (expands B s (coins_from xs))) (λ _.
-    Ok (slice_set ps i (Held (coins_from xs)))))
+    Ok (slice_set ps i (Some (coins_from xs)))))
 
 -- publish: the key of the coins at the place; `key` is the length of its buffer
 abbrev pub published : Book → Set → Places → ℕ → ℕ → ℕ → ℕ → Result (List ℕ) Refusal
@@ -117,4 +115,4 @@ opened B s ps i secret secret_words product_words parcel =
 
 -- retire: the places with this one emptied
 abbrev pub retired : Places → ℕ → Result Places Refusal
-retired ps i = bind (coins_at ps i) (λ _. Ok (slice_set ps i Empty))
+retired ps i = bind (coins_at ps i) (λ _. Ok (slice_set ps i None))

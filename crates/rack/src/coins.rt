@@ -1,7 +1,6 @@
 // Finding, keeping and dropping coins.
-ghost use Rattle.std.specs.Prelude.{◌≡◌, ◌<◌, length, slice_index_or};
+ghost use Rattle.std.specs.Prelude.{◌≡◌, ◌<◌, length, slice_index_or, Some};
 ghost use Rattle.rack.specs.Calls.{place_count, coins_from, coins_at, known_place, unused};
-ghost use Rattle.rack.specs.declared.record.Record.TheVariants.{Empty, Held};
 
 use crate::record::{Coins, PLACES, Record};
 use calls::Refusal;
@@ -23,21 +22,18 @@ pub(crate) fn find_coins(places: &[Record], place: u8) -> Result<Coins, Refusal>
     ensures { result ≡ coins_at places.now place }
 {
     check_place(place)?;
-    match places[place as usize] {
-        Record::Held(coins) => Ok(coins),
-        Record::Empty => Err(Refusal::EmptyPlace(place)),
-    }
+    places[place as usize].ok_or(Refusal::EmptyPlace(place))
 }
 
 // Refuses a place in use.
 pub(crate) fn check_unused(places: &[Record], place: u8) -> Result<(), Refusal>
     requires count { length places.now ≡ place_count }
     requires known { place < place_count }
-    ensures { result ≡ unused place (slice_index_or places.now place Empty) }
+    ensures { result ≡ unused place (slice_index_or places.now place None) }
 {
     match places[place as usize] {
-        Record::Held(_) => Err(Refusal::PlaceInUse(place)),
-        Record::Empty => Ok(()),
+        Some(_) => Err(Refusal::PlaceInUse(place)),
+        None => Ok(()),
     }
 }
 
@@ -57,19 +53,19 @@ pub(crate) fn coins_from(bytes: &[u8]) -> Coins
 
 // Keeps coins in a record.
 pub(crate) fn keep(slot: &mut Record, coins: Coins)
-    ensures { slot.new ≡ Held coins }
+    ensures { slot.new ≡ Some coins }
 {
-    *slot = Record::Held(coins);
+    *slot = Some(coins);
 }
 
 // Empties a record; the coins that it held are overwritten first.
 pub(crate) fn erase(slot: &mut Record)
-    ensures { slot.new ≡ Empty }
+    ensures { slot.new ≡ None }
 {
-    if let Record::Held(coins) = slot {
+    if let Some(coins) = slot {
         coins.sigma.fill(0);
         coins.seed.fill(0);
         coins.z.fill(0);
     }
-    *slot = Record::Empty;
+    *slot = None;
 }

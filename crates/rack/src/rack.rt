@@ -28,7 +28,7 @@ impl<S: Source> Rack<S> {
         Rack {
             set,
             source,
-            places: [Record::Empty; PLACES],
+            places: [None; PLACES],
         }
     }
 

@@ -11,9 +11,5 @@ pub struct Coins {
     pub z: [u8; 32],
 }
 
-/// A place's record: empty, or with coins.
-#[derive(Clone, Copy)]
-pub enum Record {
-    Empty,
-    Held(Coins),
-}
+/// A place's record: its coins, if it is in use.
+pub type Record = Option<Coins>;

@@ -1,11 +1,10 @@
 -- The loops that write and read words and places: one more turn, and the end.
-use Rattle.std.proofs.Common.{◌≡◌, ℕ, zero, suc, ◌+◌, ◌-◌, ◌*◌, ◌/◌, ◌%◌, ◌<◌, ◌≤◌, List, [], ◌∷◌, ◌++◌, length, get_or, take, drop, set, sym, ap, ◌∙◌, ap₂, append_assoc, append-nil, arith, length-set}
+use Rattle.std.proofs.Common.{◌≡◌, ℕ, zero, suc, ◌+◌, ◌-◌, ◌*◌, ◌/◌, ◌%◌, ◌<◌, ◌≤◌, List, [], ◌∷◌, ◌++◌, length, get_or, take, drop, set, sym, ap, ◌∙◌, ap₂, append_assoc, append-nil, arith, length-set, Option, None}
 use borrow.Rule.Slice.PartMut.{put_mid}
 use Rattle.std.proofs.lemmas.List.{take_all, take_more_set, drop_all, drop_more, drop-drop}
 use Rattle.std.proofs.lemmas.Slice.{take-put_mid}
-use Rattle.rack.specs.declared.record.Record.{Record}
-use Rattle.rack.specs.declared.record.Record.TheVariants.{Empty}
 use Rattle.rackfile.specs.Words.{word_bytes, words_from}
+use Rattle.rack.specs.declared.record.Coins.{Coins}
 use Rattle.rackfile.specs.Places.{place_count, place_size, place_bytes, places_bytes, place_from, places_from, WholePlace, WholePlaces}
 
 -- nothing is left to come, and all of the room is filled
@@ -55,11 +54,11 @@ read_word bytes out i v h n ev inv =
     ∙ ap (λ (l : List ℕ). take i out ++ words_from l) (sym two)
     ∙ inv
 
-pub places_written : (out : List ℕ) (ps : List Record) (i : ℕ) → length ps ≤ i → length out ≡ place_size * length ps → take (place_size * i) out ++ places_bytes (drop i ps) ≡ places_bytes ps → out ≡ places_bytes ps
+pub places_written : (out : List ℕ) (ps : List (Option Coins)) (i : ℕ) → length ps ≤ i → length out ≡ place_size * length ps → take (place_size * i) out ++ places_bytes (drop i ps) ≡ places_bytes ps → out ≡ places_bytes ps
 places_written out ps i h n inv = all_done out _ _ (place_size * i) (omega arith) (ap places_bytes (drop_all i ps h)) inv
 
-pub write_place : (out part : List ℕ) (ps : List Record) (i k : ℕ) → i < length ps → length out ≡ place_size * length ps → length part ≡ place_size
-    → part ≡ place_bytes (get_or ps i Empty)
+pub write_place : (out part : List ℕ) (ps : List (Option Coins)) (i k : ℕ) → i < length ps → length out ≡ place_size * length ps → length part ≡ place_size
+    → part ≡ place_bytes (get_or ps i None)
     → take (place_size * i) out ++ places_bytes (drop i ps) ≡ places_bytes ps
     → take (place_size * (i + 1)) (put_mid (place_size * i) k out part) ++ places_bytes (drop (i + 1) ps) ≡ places_bytes ps
 write_place out part ps i k h n m e inv =
@@ -68,21 +67,21 @@ write_place out part ps i k h n m e inv =
     ap (λ (l : List ℕ). l ++ rest) (take-put_mid (place_size * i) k out part (place_size * (i + 1)) (omega arith) (omega arith))
     ∙ append_assoc front part rest
     ∙ ap (λ (l : List ℕ). front ++ (l ++ rest)) e
-    ∙ ap (λ (l : List Record). front ++ places_bytes l) (sym (drop_more ps i Empty h))
+    ∙ ap (λ (l : List (Option Coins)). front ++ places_bytes l) (sym (drop_more ps i None h))
     ∙ inv
 
 -- what holds of each place holds at every index: past the end there is an empty place
-pub all_whole : (ps : List Record) → ((k : ℕ) → k < length ps → WholePlace (get_or ps k Empty)) → WholePlaces ps
+pub all_whole : (ps : List (Option Coins)) → ((k : ℕ) → k < length ps → WholePlace (get_or ps k None)) → WholePlaces ps
 all_whole [] h i = tt
 all_whole (p ∷ ps) h zero = h 0 (omega arith)
 all_whole (p ∷ ps) h (suc i) = all_whole ps (λ k lt. h (suc k) (omega arith)) i
 
-pub places_read : (bytes : List ℕ) (out : List Record) (i : ℕ) → place_count ≤ i → length out ≡ place_count → take i out ++ places_from (place_count - i) (drop (place_size * i) bytes) ≡ places_from place_count bytes → out ≡ places_from place_count bytes
+pub places_read : (bytes : List ℕ) (out : List (Option Coins)) (i : ℕ) → place_count ≤ i → length out ≡ place_count → take i out ++ places_from (place_count - i) (drop (place_size * i) bytes) ≡ places_from place_count bytes → out ≡ places_from place_count bytes
 places_read bytes out i h n inv =
     let none : place_count - i ≡ 0 = omega arith in
     all_done out _ _ i (omega arith) (ap (λ (k : ℕ). places_from k (drop (place_size * i) bytes)) none) inv
 
-pub read_place : (bytes : List ℕ) (out : List Record) (i k : ℕ) (p : Record) → i < place_count → length out ≡ place_count → k ≡ place_size
+pub read_place : (bytes : List ℕ) (out : List (Option Coins)) (i k : ℕ) (p : Option Coins) → i < place_count → length out ≡ place_count → k ≡ place_size
     → p ≡ place_from (take k (drop (place_size * i) bytes))
     → take i out ++ places_from (place_count - i) (drop (place_size * i) bytes) ≡ places_from place_count bytes
     → take (i + 1) (set out i p) ++ places_from (place_count - (i + 1)) (drop (place_size * (i + 1)) bytes) ≡ places_from place_count bytes
@@ -93,8 +92,8 @@ read_place bytes out i k p h n ek ep inv =
     let m : place_size * i + place_size ≡ place_size * (i + 1) = omega arith in
     let after : drop place_size here ≡ drop (place_size * (i + 1)) bytes = drop-drop place_size (place_size * i) bytes ∙ ap (λ (j : ℕ). drop j bytes) m in
     let is : p ≡ place_from (take place_size here) = ep ∙ ap (λ (j : ℕ). place_from (take j here)) ek in
-    ap (λ (l : List Record). l ++ places_from left (drop (place_size * (i + 1)) bytes)) (take_more_set out i p (omega arith))
+    ap (λ (l : List (Option Coins)). l ++ places_from left (drop (place_size * (i + 1)) bytes)) (take_more_set out i p (omega arith))
     ∙ append_assoc (take i out) (p ∷ []) (places_from left (drop (place_size * (i + 1)) bytes))
-    ∙ ap₂ (λ (q : Record) (l : List ℕ). take i out ++ (q ∷ places_from left l)) is (sym after)
+    ∙ ap₂ (λ (q : Option Coins) (l : List ℕ). take i out ++ (q ∷ places_from left l)) is (sym after)
     ∙ ap (λ (j : ℕ). take i out ++ places_from j here) (sym more)
     ∙ inv

@@ -1,5 +1,5 @@
 -- What is written is read back as it was, and what is read was written so.
-use Rattle.std.proofs.Common.{◌≡◌, ℕ, suc, ◌+◌, ◌*◌, ◌/◌, ◌%◌, Bool, true, false, cond, not, eqb, List, [], ◌∷◌, ◌++◌, length, take, drop, Ok, Err, Result, sym, refl, ap, ◌∙◌, ap₂, append_assoc, arith, length-append, MatchResult}
+use Rattle.std.proofs.Common.{◌≡◌, ℕ, suc, ◌+◌, ◌*◌, ◌/◌, ◌%◌, Bool, true, false, cond, not, eqb, List, [], ◌∷◌, ◌++◌, length, take, drop, Ok, Err, Result, sym, refl, ap, ◌∙◌, ap₂, append_assoc, arith, length-append, MatchResult, Option, Some, None}
 use Rattle.std.proofs.lemmas.List.{take_at, drop_at, take_all, drop-drop}
 use Rattle.std.proofs.lemmas.Slice.Eq.{bytes_eq-Decides}
 use Rattle.std.proofs.lemmas.Bool.{eq-eqb}
@@ -7,8 +7,6 @@ use Rattle.std.specs.Str.{bytes_eq}
 use Rattle.params.specs.Sums.{bit}
 use Rattle.shake.proofs.Laws.{length_shake256}
 use Rattle.rack.specs.declared.record.Coins.{Coins}
-use Rattle.rack.specs.declared.record.Record.{Record}
-use Rattle.rack.specs.declared.record.Record.TheVariants.{Empty, Held}
 use Rattle.rackfile.specs.Words.{word_bytes, words_from}
 use Rattle.rackfile.specs.Places.{place_count, place_size, coin_bytes, unused_bytes, place_bytes, places_bytes, coins_from, place_from, places_from, WholeCoins, WholePlace, WholePlaces}
 use Rattle.rackfile.specs.Format.{file_size, letters, number_bytes, body_bytes, checksum_of, encoded, numbers_from, image_from, decoded, Whole, NeverWritten}
@@ -34,10 +32,10 @@ length_words (w ∷ ws) = omega (arith, length_words ws)
 length_coins : (c : Coins) → WholeCoins c → length (coin_bytes c) ≡ 96
 length_coins c w = simp length-append (omega arith)
 
-length_place : (p : Record) → WholePlace p → length (place_bytes p) ≡ place_size
+length_place : (p : Option Coins) → WholePlace p → length (place_bytes p) ≡ place_size
 unfolding unused_bytes
-length_place Empty w = refl
-length_place (Held c) w = ap suc (length_coins c w)
+length_place None w = refl
+length_place (Some c) w = ap suc (length_coins c w)
 
 coins_back : (c : Coins) → WholeCoins c → coins_from (coin_bytes c) ≡ c
 coins_back c w =
@@ -49,20 +47,20 @@ coins_back c w =
     let three : take 32 (drop 64 (coin_bytes c)) ≡ c.z = ap (take 32) last ∙ take_all 32 c.z (omega (arith, w.z)) in
     rw (one, two, three)
 
-place_back : (p : Record) → WholePlace p → place_from (place_bytes p) ≡ p
+place_back : (p : Option Coins) → WholePlace p → place_from (place_bytes p) ≡ p
 unfolding unused_bytes
-place_back Empty w = refl
-place_back (Held c) w = ap (λ (bs : List ℕ). Held (coins_from bs)) (take_all 96 (coin_bytes c) (omega (arith, length_coins c w))) ∙ ap (λ (d : Coins). Held d) (coins_back c w)
+place_back None w = refl
+place_back (Some c) w = ap (λ (bs : List ℕ). Some (coins_from bs)) (take_all 96 (coin_bytes c) (omega (arith, length_coins c w))) ∙ ap (λ (d : Coins). Some d) (coins_back c w)
 
-places_back : (ps : List Record) → WholePlaces ps → places_from (length ps) (places_bytes ps) ≡ ps
+places_back : (ps : List (Option Coins)) → WholePlaces ps → places_from (length ps) (places_bytes ps) ≡ ps
 places_back [] w = refl
 places_back (p ∷ ps) w =
     let n : length (place_bytes p) ≡ place_size = length_place p (w 0) in
-    ap₂ (λ (q : Record) (qs : List Record). q ∷ qs)
+    ap₂ (λ (q : Option Coins) (qs : List (Option Coins)). q ∷ qs)
     (ap place_from (take_at (place_bytes p) (places_bytes ps) place_size n) ∙ place_back p (w 0))
     (ap (places_from (length ps)) (drop_at (place_bytes p) (places_bytes ps) place_size n) ∙ places_back ps (λ i. w (suc i)))
 
-length_places : (ps : List Record) → WholePlaces ps → length (places_bytes ps) ≡ place_size * length ps
+length_places : (ps : List (Option Coins)) → WholePlaces ps → length (places_bytes ps) ≡ place_size * length ps
 length_places [] w = refl
 length_places (p ∷ ps) w = simp length-append (omega (arith, length_place p (w 0), length_places ps (λ i. w (suc i))))
 
@@ -123,7 +121,7 @@ image_back x w =
     let ln : length (number_bytes x.numbers) ≡ 35 = length_numbers x.numbers w.lengths in
     let lp : length (places_bytes x.places) ≡ 388 = length_places_bytes x w in
     let sum : List ℕ = checksum_of (body_bytes x) in
-    ap₂ (λ (a : Numbers) (b : List Record). record { numbers = a; places = b })
+    ap₂ (λ (a : Numbers) (b : List (Option Coins)). record { numbers = a; places = b })
     (ap numbers_from (second_part letters n p sum refl ln lp) ∙ numbers_back x.numbers w.lengths)
     (ap (places_from place_count) (third_part letters n p sum refl ln lp) ∙ ap (λ (k : ℕ). places_from k p) (sym w.count) ∙ places_back x.places w.places)
 

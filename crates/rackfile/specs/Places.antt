@@ -1,9 +1,7 @@
 -- The places of a rack as bytes.
-use Rattle.std.specs.Prelude.{◌≡◌, ℕ, zero, suc, cond, List, [], ◌∷◌, ◌++◌, length, take, drop, replicate, ◌==◌, slice_index, slice_index_or}
+use Rattle.std.specs.Prelude.{◌≡◌, ℕ, zero, suc, cond, List, [], ◌∷◌, ◌++◌, length, take, drop, replicate, ◌==◌, slice_index, slice_index_or, Option, Some, None}
 use Rattle.std.specs.List.{flat_map}
 use Rattle.rack.specs.declared.record.Coins.{Coins}
-use Rattle.rack.specs.declared.record.Record.{Record}
-use Rattle.rack.specs.declared.record.Record.TheVariants.{Empty, Held}
 
 -- how many places a rack has
 abbrev pub place_count : ℕ
@@ -24,11 +22,11 @@ used_bytes c = 1 ∷ coin_bytes c
 unfoldable pub unused_bytes : List ℕ
 unused_bytes = replicate place_size 0
 
-abbrev pub place_bytes : Record → List ℕ
-place_bytes Empty = unused_bytes
-place_bytes (Held c) = used_bytes c
+abbrev pub place_bytes : Option Coins → List ℕ
+place_bytes None = unused_bytes
+place_bytes (Some c) = used_bytes c
 
-abbrev pub places_bytes : List Record → List ℕ
+abbrev pub places_bytes : List (Option Coins) → List ℕ
 places_bytes ps = flat_map place_bytes ps
 
 -- the coins that stand in 96 bytes
@@ -36,11 +34,11 @@ abbrev pub coins_from : List ℕ → Coins
 coins_from bs = record { sigma = take 32 bs; seed = take 32 (drop 32 bs); z = take 32 (drop 64 bs) }
 
 -- what stands in the bytes of a place, whatever they are: it is in use unless its mark is 0
-abbrev pub place_from : List ℕ → Record
-place_from bs = cond (slice_index bs 0 == 0) Empty (Held (coins_from (take 96 (drop 1 bs))))
+abbrev pub place_from : List ℕ → Option Coins
+place_from bs = cond (slice_index bs 0 == 0) None (Some (coins_from (take 96 (drop 1 bs))))
 
 -- the first n places that stand in some bytes
-abbrev pub places_from : ℕ → List ℕ → List Record
+abbrev pub places_from : ℕ → List ℕ → List (Option Coins)
 places_from zero bs = []
 places_from (suc n) bs = place_from (take place_size bs) ∷ places_from n (drop place_size bs)
 
@@ -50,9 +48,9 @@ pub record WholeCoins (c : Coins) : Type 0 where
   pub seed : length c.seed ≡ 32
   pub z : length c.z ≡ 32
 
-abbrev pub WholePlace : Record → Type 0
-WholePlace Empty = Unit {0}
-WholePlace (Held c) = WholeCoins c
+abbrev pub WholePlace : Option Coins → Type 0
+WholePlace None = Unit {0}
+WholePlace (Some c) = WholeCoins c
 
-abbrev pub WholePlaces : List Record → Type 0
-WholePlaces ps = (i : ℕ) → WholePlace (slice_index_or ps i Empty)
+abbrev pub WholePlaces : List (Option Coins) → Type 0
+WholePlaces ps = (i : ℕ) → WholePlace (slice_index_or ps i None)

@@ -25,8 +25,8 @@ fn write_place(place: &Record, out: &mut [u8])
     ensures whole { WholePlace place.now }
 {
     match place {
-        Record::Empty => out.fill(0),
-        Record::Held(coins) => {
+        None => out.fill(0),
+        Some(coins) => {
             out[0] = 1;
             write_coins(coins, &mut out[1..PLACE_BYTES]);
         }
@@ -65,9 +65,9 @@ fn read_place(bytes: &[u8]) -> Record
     ensures { result ≡ place_from bytes.now }
 {
     if bytes[0] == 0 {
-        Record::Empty
+        None
     } else {
-        Record::Held(read_coins(&bytes[1..PLACE_BYTES]))
+        Some(read_coins(&bytes[1..PLACE_BYTES]))
     }
 }
 
@@ -76,7 +76,7 @@ pub(crate) fn read_places(bytes: &[u8]) -> [Record; PLACES]
     requires { length bytes.now ≡ place_size * place_count }
     ensures { result ≡ places_from place_count bytes.now }
 {
-    let mut places = [Record::Empty; PLACES];
+    let mut places = [None; PLACES];
     for i in 0..PLACES {
         let start = PLACE_BYTES * i;
         places[i] = read_place(&bytes[start..start + PLACE_BYTES]);

@@ -5,7 +5,7 @@ use crate::stop::Stop;
 use calls::AREA_WORDS;
 use kit::new_source;
 use lab::{gauge, raw_read};
-use rack::{PLACES, Rack, Record};
+use rack::{PLACES, Rack};
 use seal::seal;
 use source::Source;
 
@@ -36,7 +36,7 @@ fn read_place(rt: &HostRuntime, word: &str) -> Result<u8, Stop> {
 pub fn make_rack(rt: &HostRuntime, set: &str, rack: &str) -> Result<(), Stop> {
     check_name(rt, rack, &[set])?;
     let set = load_set(rt, set)?;
-    store_rack(rt, rack, &set, &[Record::Empty; PLACES])
+    store_rack(rt, rack, &set, &[None; PLACES])
 }
 
 pub fn retire(rt: &HostRuntime, path: &str, place: &str) -> Result<(), Stop> {

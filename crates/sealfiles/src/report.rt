@@ -7,7 +7,6 @@ use card::card;
 use kit::{always_opens, new_rack};
 use neighbour::{cost_of, neighbour};
 use params::set::Set;
-use rack::Record;
 use words::{Refusal, verdict};
 
 // A table: the numbers of sets, their bounds and lines, their neighbours, or what becomes of parcels that nobody touched.
@@ -191,8 +190,8 @@ pub fn show_rack(rt: &HostRuntime, path: &str) -> Result<(), Stop> {
     println!(rt; "")?;
     for (place, record) in held.places.iter().enumerate() {
         match record {
-            Record::Empty => println!(rt; "place {place}: empty")?,
-            Record::Held(_) => println!(rt; "place {place}: in use")?,
+            None => println!(rt; "place {place}: empty")?,
+            Some(_) => println!(rt; "place {place}: in use")?,
         }
     }
     Ok(())
