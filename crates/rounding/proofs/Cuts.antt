@@ -16,15 +16,6 @@ use Rattle.ring.proofs.Congruences.{cong_same, cong_sym, cong_trans, cong_sub, c
 use Rattle.rounding.specs.Rounding.{h1, h2, rounded, symbol, raw_bit, slip, noise, in_band}
 use Rattle.rounding.proofs.Powers.{over, over_twice, half_pow, quarter_pow, twice_pow, mod_mod, cut_is, rest_is}
 
--- ---- rounding
-pub round_is : (M : Moduli) (x h mask : ℕ) → h ≡ h1 M → mask ≡ 2 ^ M.pb - 1
-    → bit_and ((x + h) % 2 ^ 16 / 2 ^ (M.qb - M.pb)) mask ≡ rounded M (x % q M)
-unfolding rounded
-round_is M x h mask eh em =
-    ap₂ (λ n m. bit_and ((x + n) % 2 ^ 16 / 2 ^ (M.qb - M.pb)) m) eh em
-    ∙ and_mask ((x + h1 M) % 2 ^ 16 / 2 ^ (M.qb - M.pb)) M.pb
-    ∙ cut_is x (h1 M) M.pb M.qb (omega arith) (omega arith)
-
 -- ---- symbols
 -- two words added, cut to k bits
 sum_is : (a u A k : ℕ) → k ≤ 16 → a % 2 ^ k ≡ A % 2 ^ k → (a + u % 2 ^ 16) % 2 ^ 16 % 2 ^ k ≡ (A + u) % 2 ^ k
@@ -37,15 +28,13 @@ sum_is a u A k le e =
     ∙ ap (λ m. (m + u) % 2 ^ k) e
     ∙ mod-add-mod A (2 ^ k) u
 
-pub symbol_is : (M : Moduli) (x h mask bit : ℕ) → h ≡ h1 M → mask ≡ 2 ^ M.tb - 1
-    → bit_and (((x + h) % 2 ^ 16 / 2 ^ (M.pb - M.tb) + bit * 2 ^ (M.tb - 1) % 2 ^ 16) % 2 ^ 16) mask ≡ symbol M (x % p M) bit
+pub symbol_is : (M : Moduli) (x bit : ℕ)
+    → ((x + h1 M) % 2 ^ 16 / 2 ^ (M.pb - M.tb) + bit * 2 ^ (M.tb - 1) % 2 ^ 16) % 2 ^ 16 % t M ≡ symbol M (x % p M) bit
 unfolding symbol
-symbol_is M x h mask bit eh em =
+symbol_is M x bit =
     let u : bit * 2 ^ (M.tb - 1) ≡ t M / 2 * bit = mul_comm bit (2 ^ (M.tb - 1)) ∙ ap (λ n. n * bit) (sym (half_pow M.tb M.some)) in
     let cut : ℕ = (x + h1 M) % 2 ^ 16 / 2 ^ (M.pb - M.tb) in
-    ap₂ (λ n m. bit_and (((x + n) % 2 ^ 16 / 2 ^ (M.pb - M.tb) + bit * 2 ^ (M.tb - 1) % 2 ^ 16) % 2 ^ 16) m) eh em
-    ∙ and_mask ((cut + bit * 2 ^ (M.tb - 1) % 2 ^ 16) % 2 ^ 16) M.tb
-    ∙ ap (λ n. (cut + n % 2 ^ 16) % 2 ^ 16 % t M) u
+    ap (λ n. (cut + n % 2 ^ 16) % 2 ^ 16 % t M) u
     ∙ sum_is cut (t M / 2 * bit) ((x % p M + h1 M) * t M / p M) M.tb (omega arith) (cut_is x (h1 M) M.tb M.pb (omega arith) (omega arith))
 
 -- ---- raw bits
@@ -59,12 +48,6 @@ top_bit y half some lt =
           let e : y ≡ 1 * half + (y - half) = omega arith in
           ap (λ n. n / half) e ∙ div-mul-add 1 half (y - half) (omega arith) ∙ sym (ap bit (le-leb half y more))
     ]
-
--- the highest of b low bits, whatever the number
-pub top_low : (n b mask : ℕ) → 1 ≤ b → mask ≡ 2 ^ b - 1 → bit_and n mask / 2 ^ (b - 1) < 2
-top_low n b mask le em =
-    let is : bit_and n mask ≡ n % 2 ^ b = ap (bit_and n) em ∙ and_mask n b in
-    (div-lt_iff_lt-mul {x = bit_and n mask} {y = 2} (pow_pos (b - 1))).1 (omega (arith, is, mod-lt n (pow_pos b), twice_pow b le))
 
 -- a number and its remainder modulo 2^w are congruent modulo a lower power
 low_cong : (w b x : ℕ) → b ≤ w → Congruent (2 ^ b) (pos (x % 2 ^ w)) (pos x)
@@ -89,91 +72,68 @@ raw_word b v x c le lt =
     (cong_trans (less_cong 16 b (v % 2 ^ 16) x le lt) (cong_sub (low_cong 16 b v le) (cong_sym (low_cong b b x (omega arith)))))
     (cong_same {x = pos c} refl)))
 
-pub raw_is : (M : Moduli) (v x c mask : ℕ) → x < 2 ^ 16 → c ≡ h2 M → mask ≡ 2 ^ M.pb - 1
-    → bit_and ((((v * 2 ^ (M.pb - M.tb)) % 2 ^ 16 + (2 ^ 16 - x)) % 2 ^ 16 + c) % 2 ^ 16) mask / 2 ^ (M.pb - 1) ≡ raw_bit M v (x % p M)
+pub raw_is : (M : Moduli) (v x : ℕ) → x < 2 ^ 16
+    → add16 (sub16 (v * 2 ^ (M.pb - M.tb) % 2 ^ 16) x) (h2 M) % p M / 2 ^ (M.pb - 1) ≡ raw_bit M v (x % p M)
 unfolding raw_bit
-raw_is M v x c mask lt ec em =
+raw_is M v x lt =
     let bit : ℕ → ℕ → ℕ = λ half y. cond (leb half y) 1 0 in
-    let word : ℕ → ℕ = λ n. add16 (sub16 ((v * 2 ^ (M.pb - M.tb)) % 2 ^ 16) x) n in
     let Y = mod_z (p M) (pos (p M / t M * v) -ℤ pos (x % p M) +ℤ pos (h2 M)) in
     let times : v * 2 ^ (M.pb - M.tb) ≡ p M / t M * v = mul_comm v (2 ^ (M.pb - M.tb)) ∙ ap (λ n. n * v) (sym (over M.tb M.pb (omega arith))) in
-    let is : word (h2 M) % p M ≡ Y = raw_word M.pb (v * 2 ^ (M.pb - M.tb)) x (h2 M) (omega arith) lt ∙ ap (λ n. mod_z (p M) (pos n -ℤ pos (x % p M) +ℤ pos (h2 M))) times in
     let small : Y < 2 * 2 ^ (M.pb - 1) = subst (λ n. Y < n) (twice_pow M.pb (omega arith)) (mod_z_lt (p M) (pow_pos M.pb) (pos (p M / t M * v) -ℤ pos (x % p M) +ℤ pos (h2 M))) in
-    ap₂ (λ n m. bit_and (word n) m / 2 ^ (M.pb - 1)) ec em
-    ∙ ap (λ n. n / 2 ^ (M.pb - 1)) (and_mask (word (h2 M)) M.pb ∙ is)
+    ap (λ n. n / 2 ^ (M.pb - 1)) (raw_word M.pb (v * 2 ^ (M.pb - M.tb)) x (h2 M) (omega arith) lt ∙ ap (λ n. mod_z (p M) (pos n -ℤ pos (x % p M) +ℤ pos (h2 M))) times)
     ∙ top_bit Y (2 ^ (M.pb - 1)) (pow_pos (M.pb - 1)) small
     ∙ ap (λ n. bit n Y) (sym (half_pow M.pb (omega arith)))
 
 -- ---- slips
-less_form : (h r : ℕ) → h < 2 ^ 16 → r < 2 ^ 16 → to_z w32 (of_z w32 (to_z w32 h -ℤ to_z w32 r)) ≡ pos h -ℤ pos r
+pub less_form : (h r : ℕ) → h < 2 ^ 16 → r < 2 ^ 16 → to_z w32 (of_z w32 (to_z w32 h -ℤ to_z w32 r)) ≡ pos h -ℤ pos r
 less_form h r lh lr = omega (arith, ints)
 
--- the low d bits of x + h
-rest_mask : (x h mask d : ℕ) → mask ≡ 2 ^ d - 1 → bit_and ((x + h) % 2 ^ 16) mask ≡ (x + h) % 2 ^ 16 % 2 ^ d
-rest_mask x h mask d em = ap (bit_and ((x + h) % 2 ^ 16)) em ∙ and_mask ((x + h) % 2 ^ 16) d
-
-pub slip_is : (M : Moduli) (x h mask : ℕ) → h < 2 ^ 16 → h ≡ h1 M → mask ≡ 2 ^ (M.qb - M.pb) - 1
-    → to_z w32 (of_z w32 (to_z w32 h -ℤ to_z w32 (bit_and ((x + h) % 2 ^ 16) mask))) ≡ slip M (x % q M)
-unfolding slip
-slip_is M x h mask lh eh em =
-    let d : ℕ = M.qb - M.pb in
-    let cut : bit_and ((x + h) % 2 ^ 16) mask ≡ (x + h) % 2 ^ 16 % 2 ^ d = rest_mask x h mask d em in
-    let low : (x + h) % 2 ^ 16 % 2 ^ d < 2 ^ d = mod-lt ((x + h) % 2 ^ 16) (pow_pos d) in
-    let small : bit_and ((x + h) % 2 ^ 16) mask < 2 ^ 16 = omega (arith, cut, pow_mono {i = d} {j = 16} (omega arith)) in
-    less_form h (bit_and ((x + h) % 2 ^ 16) mask) lh small
-    ∙ ap (λ r. pos h -ℤ pos r) (cut ∙ rest_is x h d M.qb (omega arith) (omega arith) ∙ ap (λ n. (x % q M + h) % n) (sym (over M.pb M.qb (omega arith))))
-    ∙ ap (λ n. pos n -ℤ pos ((x % q M + n) % (q M / p M))) eh
-
 -- ---- noise
-noise_form : (e f : ℤ) (m c : ℕ) → nat_abs e ≤ 2 ^ 28 → nat_abs f ≤ 2 ^ 28 → m < 2 ^ 16 → c < 2 ^ 16
+pub noise_form : (e f : ℤ) (m c : ℕ) → nat_abs e ≤ 2 ^ 28 → nat_abs f ≤ 2 ^ 28 → m < 2 ^ 16 → c < 2 ^ 16
     → to_z w32 (of_z w32 (to_z w32 (of_z w32 (to_z w32 (of_z w32 (to_z w32 (of_z w32 e) -ℤ to_z w32 (of_z w32 f))) +ℤ to_z w32 m)) -ℤ to_z w32 c)) ≡ (e -ℤ f) +ℤ pos m -ℤ pos c
 noise_form e f m c le lf lm lc = omega (arith, ints)
 
-noise_fits : (e f : ℤ) (m c : ℕ) → nat_abs e ≤ 2 ^ 28 → nat_abs f ≤ 2 ^ 28 → m < 2 ^ 16 → c < 2 ^ 16
+pub noise_fits : (e f : ℤ) (m c : ℕ) → nat_abs e ≤ 2 ^ 28 → nat_abs f ≤ 2 ^ 28 → m < 2 ^ 16 → c < 2 ^ 16
     → SFits w32 (to_z w32 (of_z w32 (to_z w32 (of_z w32 (to_z w32 (of_z w32 e) -ℤ to_z w32 (of_z w32 f))) +ℤ to_z w32 m)) -ℤ to_z w32 c)
 noise_fits e f m c le lf lm lc = omega (arith, ints)
 
-small_fits : (n : ℕ) → n < 2 ^ 16 → SFits w32 (pos n)
-small_fits n h = omega (arith, ints)
-
-middle_lt : (M : Moduli) → (1 * 2 ^ (M.qb - M.tb - 1)) % 2 ^ 32 < 2 ^ 16
+pub middle_lt : (M : Moduli) → (1 * 2 ^ (M.qb - M.tb - 1)) % 2 ^ 32 < 2 ^ 16
 middle_lt M =
     let e : (1 * 2 ^ (M.qb - M.tb - 1)) % 2 ^ 32 ≡ 2 ^ (M.qb - M.tb - 1) = one_shl (M.qb - M.tb - 1) 32 (omega arith) in
     let le : 2 ^ (M.qb - M.tb - 1) ≤ 2 ^ 14 = pow_mono {i = M.qb - M.tb - 1} {j = 14} (omega arith) in
     omega arith
 
-module _ (M : Moduli) (x h mask : ℕ) (eh : h ≡ h1 M) (em : mask ≡ 2 ^ (M.pb - M.tb) - 1) where
-  rest_small : bit_and ((x + h) % 2 ^ 16) mask < 2 ^ (M.pb - M.tb)
-  rest_small = subst (λ n. n < 2 ^ (M.pb - M.tb)) (sym (rest_mask x h mask (M.pb - M.tb) em)) (mod-lt ((x + h) % 2 ^ 16) (pow_pos (M.pb - M.tb)))
+-- the low bits of x + h, scaled by q/p
+module _ (M : Moduli) (x rest : ℕ) (is : rest ≡ (x + h1 M) % 2 ^ 16 % 2 ^ (M.pb - M.tb)) where
+  rest_small : rest < 2 ^ (M.pb - M.tb)
+  rest_small = subst (λ n. n < 2 ^ (M.pb - M.tb)) (sym is) (mod-lt ((x + h1 M) % 2 ^ 16) (pow_pos (M.pb - M.tb)))
 
-  cut_whole : (bit_and ((x + h) % 2 ^ 16) mask * 2 ^ (M.qb - M.pb)) % 2 ^ 32 ≡ bit_and ((x + h) % 2 ^ 16) mask * 2 ^ (M.qb - M.pb)
-  cut_whole = shl_whole (bit_and ((x + h) % 2 ^ 16) mask) (M.pb - M.tb) (M.qb - M.pb) 32 rest_small (omega arith)
+  cut_whole : rest * 2 ^ (M.qb - M.pb) % 2 ^ 32 ≡ rest * 2 ^ (M.qb - M.pb)
+  cut_whole = shl_whole rest (M.pb - M.tb) (M.qb - M.pb) 32 rest_small (omega arith)
 
-  cut_lt : (bit_and ((x + h) % 2 ^ 16) mask * 2 ^ (M.qb - M.pb)) % 2 ^ 32 < 2 ^ 16
+  cut_lt : rest * 2 ^ (M.qb - M.pb) % 2 ^ 32 < 2 ^ 16
   cut_lt =
-      let below : bit_and ((x + h) % 2 ^ 16) mask * 2 ^ (M.qb - M.pb) < 2 ^ (M.pb - M.tb + (M.qb - M.pb)) = shl_below (bit_and ((x + h) % 2 ^ 16) mask) (M.pb - M.tb) (M.qb - M.pb) rest_small in
+      let below = shl_below rest (M.pb - M.tb) (M.qb - M.pb) rest_small in
       let le : 2 ^ (M.pb - M.tb + (M.qb - M.pb)) ≤ 2 ^ 16 = pow_mono {i = M.pb - M.tb + (M.qb - M.pb)} {j = 16} (omega arith) in
-      let e = cut_whole in
-      omega arith
+      omega (arith, cut_whole)
 
-  pub cut_fits : SFits w32 (pos ((bit_and ((x + h) % 2 ^ 16) mask * 2 ^ (M.qb - M.pb)) % 2 ^ 32))
-  cut_fits = small_fits _ cut_lt
+  cut_value : rest * 2 ^ (M.qb - M.pb) % 2 ^ 32 ≡ q M / p M * ((x % p M + h1 M) % (p M / t M))
+  cut_value =
+      let low = rest_is x (h1 M) (M.pb - M.tb) M.pb (omega arith) (omega arith) in
+      let width = over M.tb M.pb (omega arith) in
+      let step = over M.pb M.qb (omega arith) in
+      cut_whole ∙ mul_comm rest (2 ^ (M.qb - M.pb)) ∙ (cc)
 
-  pub noise_sum_fits : (e f : ℤ) → nat_abs e ≤ 2 ^ 28 → nat_abs f ≤ 2 ^ 28
-      → SFits w32 (to_z w32 (of_z w32 (to_z w32 (of_z w32 (to_z w32 (of_z w32 e) -ℤ to_z w32 (of_z w32 f))) +ℤ to_z w32 ((1 * 2 ^ (M.qb - M.tb - 1)) % 2 ^ 32))) -ℤ to_z w32 ((bit_and ((x + h) % 2 ^ 16) mask * 2 ^ (M.qb - M.pb)) % 2 ^ 32))
-  noise_sum_fits e f le lf = noise_fits e f _ _ le lf (middle_lt M) cut_lt
+  module _ (e f : ℤ) (le : nat_abs e ≤ 2 ^ 28) (lf : nat_abs f ≤ 2 ^ 28) where
+    pub noise_sum_fits : SFits w32 (to_z w32 (of_z w32 (to_z w32 (of_z w32 (to_z w32 (of_z w32 e) -ℤ to_z w32 (of_z w32 f))) +ℤ to_z w32 ((1 * 2 ^ (M.qb - M.tb - 1)) % 2 ^ 32))) -ℤ to_z w32 (rest * 2 ^ (M.qb - M.pb) % 2 ^ 32))
+    noise_sum_fits = noise_fits e f _ _ le lf (middle_lt M) cut_lt
 
-  pub noise_is : (e f : ℤ) → nat_abs e ≤ 2 ^ 28 → nat_abs f ≤ 2 ^ 28
-      → to_z w32 (of_z w32 (to_z w32 (of_z w32 (to_z w32 (of_z w32 (to_z w32 (of_z w32 e) -ℤ to_z w32 (of_z w32 f))) +ℤ to_z w32 ((1 * 2 ^ (M.qb - M.tb - 1)) % 2 ^ 32))) -ℤ to_z w32 ((bit_and ((x + h) % 2 ^ 16) mask * 2 ^ (M.qb - M.pb)) % 2 ^ 32)))
-      ≡ noise M (e -ℤ f) (x % p M)
-  unfolding noise
-  noise_is e f le lf =
-      let m-is : (1 * 2 ^ (M.qb - M.tb - 1)) % 2 ^ 32 ≡ q M / (2 * t M) = one_shl (M.qb - M.tb - 1) 32 (omega arith) ∙ sym (over_twice M.tb M.qb (omega arith)) in
-      let r-is : bit_and ((x + h) % 2 ^ 16) mask ≡ (x % p M + h1 M) % (p M / t M) =
-      rest_mask x h mask (M.pb - M.tb) em ∙ rest_is x h (M.pb - M.tb) M.pb (omega arith) (omega arith) ∙ ap₂ (λ k n. (x % p M + k) % n) eh (sym (over M.tb M.pb (omega arith))) in
-      let c-is : (bit_and ((x + h) % 2 ^ 16) mask * 2 ^ (M.qb - M.pb)) % 2 ^ 32 ≡ q M / p M * ((x % p M + h1 M) % (p M / t M)) =
-      cut_whole ∙ mul_comm (bit_and ((x + h) % 2 ^ 16) mask) (2 ^ (M.qb - M.pb)) ∙ ap₂ (λ n m. n * m) (sym (over M.pb M.qb (omega arith))) r-is in
-      noise_form e f _ _ le lf (middle_lt M) cut_lt ∙ ap₂ (λ n m. (e -ℤ f) +ℤ pos n -ℤ pos m) m-is c-is
+    pub noise_is : to_z w32 (of_z w32 (to_z w32 (of_z w32 (to_z w32 (of_z w32 (to_z w32 (of_z w32 e) -ℤ to_z w32 (of_z w32 f))) +ℤ to_z w32 ((1 * 2 ^ (M.qb - M.tb - 1)) % 2 ^ 32))) -ℤ to_z w32 (rest * 2 ^ (M.qb - M.pb) % 2 ^ 32)))
+        ≡ noise M (e -ℤ f) (x % p M)
+    unfolding noise
+    noise_is =
+        let middle : (1 * 2 ^ (M.qb - M.tb - 1)) % 2 ^ 32 ≡ q M / (2 * t M) = one_shl (M.qb - M.tb - 1) 32 (omega arith) ∙ sym (over_twice M.tb M.qb (omega arith)) in
+        noise_form e f _ _ le lf (middle_lt M) cut_lt ∙ ap₂ (λ n m. (e -ℤ f) +ℤ pos n -ℤ pos m) middle cut_value
 
 -- ---- the band
 -- the bits of a signed number are congruent to it

@@ -6,12 +6,12 @@ ghost use Rattle.rounding.specs.Rounding.{h1, h2, rounded, symbol, raw_bit, slip
 use params::moduli::Moduli;
 use ring::{Coefficient, Rounded, Symbol};
 
-// A word with this many low bits set.
-fn low_mask(bits: u32) -> u16
+// The low bits of a word.
+fn low_bits(x: u16, bits: u32) -> u16
     requires { bits ≤ 16 }
-    ensures { result ≡ 2 ^ bits - 1 }
+    ensures { result ≡ x % 2 ^ bits }
 {
-    ((1u32 << bits) - 1) as u16
+    x & ((1u32 << bits) - 1) as u16
 }
 
 fn first_constant(moduli: Moduli) -> u16
@@ -30,17 +30,16 @@ fn second_constant(moduli: Moduli) -> u16
 pub fn round(moduli: Moduli, x: Coefficient) -> Rounded
     ensures { result.0 ≡ rounded moduli (x.0 % q moduli) }
 {
-    let mask = low_mask(moduli.pb);
-    Rounded((x.0.wrapping_add(first_constant(moduli)) >> (moduli.qb - moduli.pb)) & mask)
+    let cut = x.0.wrapping_add(first_constant(moduli)) >> (moduli.qb - moduli.pb);
+    Rounded(low_bits(cut, moduli.pb))
 }
 
 // The slip of that rounding.
 pub fn to_slip(moduli: Moduli, x: Coefficient) -> i32
     ensures { result ≡ slip moduli (x.0 % q moduli) }
 {
-    let mask = low_mask(moduli.qb - moduli.pb);
     let half = first_constant(moduli);
-    let rest = x.0.wrapping_add(half) & mask;
+    let rest = low_bits(x.0.wrapping_add(half), moduli.qb - moduli.pb);
     half as i32 - rest as i32
 }
 
@@ -48,18 +47,16 @@ pub fn to_slip(moduli: Moduli, x: Coefficient) -> i32
 pub fn to_symbol(moduli: Moduli, x: Rounded, bit: u8) -> Symbol
     ensures { result.0 ≡ symbol moduli (x.0 % p moduli) bit }
 {
-    let mask = low_mask(moduli.tb);
     let cut = x.0.wrapping_add(first_constant(moduli)) >> (moduli.pb - moduli.tb);
-    Symbol(cut.wrapping_add((bit as u16) << (moduli.tb - 1)) & mask)
+    Symbol(low_bits(cut.wrapping_add((bit as u16) << (moduli.tb - 1)), moduli.tb))
 }
 
 // The bit that is read from a symbol.
 pub fn to_raw_bit(moduli: Moduli, v: Symbol, x: Rounded) -> u8
     ensures { result ≡ raw_bit moduli v.0 (x.0 % p moduli) }
 {
-    let mask = low_mask(moduli.pb);
     let high = v.0 << (moduli.pb - moduli.tb);
-    let y = high.wrapping_sub(x.0).wrapping_add(second_constant(moduli)) & mask;
+    let y = low_bits(high.wrapping_sub(x.0).wrapping_add(second_constant(moduli)), moduli.pb);
     (y >> (moduli.pb - 1)) as u8
 }
 
@@ -69,8 +66,7 @@ pub fn to_noise(moduli: Moduli, first: i32, second: i32, x: Rounded) -> i32
     requires second_near { unsigned_abs second ≤ 2 ^ 28 }
     ensures { result ≡ noise moduli (first -ℤ second) (x.0 % p moduli) }
 {
-    let mask = low_mask(moduli.pb - moduli.tb);
-    let rest = x.0.wrapping_add(first_constant(moduli)) & mask;
+    let rest = low_bits(x.0.wrapping_add(first_constant(moduli)), moduli.pb - moduli.tb);
     let cut = (rest as u32) << (moduli.qb - moduli.pb);
     let middle = 1i32 << (moduli.qb - moduli.tb - 1);
     first - second + middle - cut as i32

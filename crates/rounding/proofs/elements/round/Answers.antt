@@ -1,5 +1,11 @@
-use Rattle.rounding.proofs.Cuts.{round_is}
+use Rattle.std.proofs.Common.{◌≡◌, ◌+◌, ◌-◌, ◌*◌, ◌/◌, ◌%◌, ◌^◌, arith}
+use Rattle.rounding.specs.Rounding.{h1, rounded}
+use Rattle.rounding.proofs.Powers.{cut_is}
 use Rattle.rounding.proofs.elements.round.Goals as goal
 
 pub returns : goal.returns
-returns c = round_is c.args.moduli c.args.x.0 c.first_constant.result c.low_mask-mask.result c.first_constant.ensures c.low_mask-mask.ensures
+unfolding rounded
+returns c =
+    let M = c.args.moduli in
+    let e = cut_is c.args.x.0 (h1 M) M.pb M.qb (omega arith) (omega arith) in
+    cc
