@@ -1,6 +1,6 @@
 -- Shifts, masks and words that wrap are the quotients and remainders of the definitions.
 use Rattle.std.proofs.Common.{◌≡◌, ℕ, ◌+◌, ◌-◌, ◌*◌, ◌/◌, ◌%◌, ◌^◌, ◌<◌, ◌≤◌, Bool, cond, ltb, leb, ℤ, pos, negsuc, ◌+ℤ◌, ◌-ℤ◌, nat_abs, sym, refl, ap, ◌∙◌, subst, ap₂, inl, inr, mod-lt, mul_comm, arith, pow_pos, pow_mono, pow-add, w32, SFits, to_z, of_z}
-use native.Mathlib.Nat.{mod-add-mod, add-mod-mod, div-eq_of_lt, div-lt_iff_lt-mul}
+use native.Mathlib.Nat.{mod-add-mod, add-mod-mod, div-eq_of_lt}
 use lib.Bits.{bit_and}
 use lib.Signed.{lt_z}
 use borrow.Author.Differences.{ints}
@@ -13,7 +13,7 @@ use Rattle.ring.specs.Words.{add16, sub16}
 use Rattle.ring.specs.Cyclic.{mod_z}
 use Rattle.ring.specs.Congruence.{Congruent}
 use Rattle.ring.proofs.Congruences.{cong_same, cong_sym, cong_trans, cong_sub, cong_add, cong_part, mod_z_lt, mod_z_cong, mod_z_same}
-use Rattle.rounding.specs.Rounding.{h1, h2, rounded, symbol, raw_bit, slip, noise, in_band}
+use Rattle.rounding.specs.Rounding.{h1, h2, symbol, raw_bit, noise, in_band}
 use Rattle.rounding.proofs.Powers.{over, over_twice, half_pow, quarter_pow, twice_pow, mod_mod, cut_is, rest_is}
 
 -- ---- symbols

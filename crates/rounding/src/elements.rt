@@ -56,7 +56,10 @@ pub fn to_raw_bit(moduli: Moduli, v: Symbol, x: Rounded) -> u8
     ensures { result ≡ raw_bit moduli v.0 (x.0 % p moduli) }
 {
     let high = v.0 << (moduli.pb - moduli.tb);
-    let y = low_bits(high.wrapping_sub(x.0).wrapping_add(second_constant(moduli)), moduli.pb);
+    let y = low_bits(
+        high.wrapping_sub(x.0).wrapping_add(second_constant(moduli)),
+        moduli.pb,
+    );
     (y >> (moduli.pb - 1)) as u8
 }
 
@@ -66,7 +69,10 @@ pub fn to_noise(moduli: Moduli, first: i32, second: i32, x: Rounded) -> i32
     requires second_near { unsigned_abs second ≤ 2 ^ 28 }
     ensures { result ≡ noise moduli (first -ℤ second) (x.0 % p moduli) }
 {
-    let rest = low_bits(x.0.wrapping_add(first_constant(moduli)), moduli.pb - moduli.tb);
+    let rest = low_bits(
+        x.0.wrapping_add(first_constant(moduli)),
+        moduli.pb - moduli.tb,
+    );
     let cut = (rest as u32) << (moduli.qb - moduli.pb);
     let middle = 1i32 << (moduli.qb - moduli.tb - 1);
     first - second + middle - cut as i32

@@ -74,7 +74,10 @@ pub fn noise(moduli: Moduli, first: &[i32], second: &[i32], product: &[u16], out
     requires second_near { (k : ℕ) → unsigned_abs (signed second.now k) ≤ 2 ^ 28 }
     ensures { (n : ℕ) (b r : List ℕ) → product.now ≡ cyclic_words n b r → out.new ≡ noises moduli (length out.old) first.now second.now (cross_product moduli n b r) }
 {
-    fill_each(out, |i| to_noise(moduli, first[i], second[i], Rounded(product[i])));
+    fill_each(
+        out,
+        |i| to_noise(moduli, first[i], second[i], Rounded(product[i])),
+    );
 }
 
 // How many symbols are out of band.

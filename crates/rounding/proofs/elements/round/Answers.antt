@@ -1,4 +1,4 @@
-use Rattle.std.proofs.Common.{◌≡◌, ◌+◌, ◌-◌, ◌*◌, ◌/◌, ◌%◌, ◌^◌, arith}
+use Rattle.std.proofs.Common.{arith}
 use Rattle.rounding.specs.Rounding.{h1, rounded}
 use Rattle.rounding.proofs.Powers.{cut_is}
 use Rattle.rounding.proofs.elements.round.Goals as goal
