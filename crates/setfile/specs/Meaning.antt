@@ -8,7 +8,7 @@ use Rattle.setfile.specs.declared.field.Number.TheVariants.{RingSize, Weight, Qb
 use Rattle.setfile.specs.declared.field.Field.{Field}
 use Rattle.setfile.specs.declared.field.Field.TheVariants.{Scalar, Lengths, Block}
 use Rattle.setfile.specs.declared.field.Entry.{Entry}
-use Rattle.setfile.specs.declared.field.Entry.TheVariants.{Nothing, Value, List as Many, Mark}
+use Rattle.setfile.specs.declared.field.Entry.TheVariants.{Value, List as Many, Mark}
 use Rattle.setfile.specs.declared.found.Found.{Found}
 use Rattle.setfile.specs.declared.draft.Draft.{Draft}
 use Rattle.setfile.specs.declared.fault.Wrong.{Wrong}
@@ -61,11 +61,11 @@ named_of name None = Err NoField
 named_of name (Some text) = known_of (field_of name) text
 
 -- a line without its comment: blank, or a name, an equals sign (61) and a value
-abbrev pub bare_of : List ℕ → Result Entry Wrong
-bare_of xs = cond (blank xs) (Ok Nothing) (named_of (before 61 xs) (after 61 xs))
+abbrev pub bare_of : List ℕ → Result (Option Entry) Wrong
+bare_of xs = cond (blank xs) (Ok None) (bind (named_of (before 61 xs) (after 61 xs)) (λ e. Ok (Some e)))
 
--- what a line says; a number sign (35) begins a comment
-abbrev pub line_of : List ℕ → Result Entry Wrong
+-- what a line says, if anything; a number sign (35) begins a comment
+abbrev pub line_of : List ℕ → Result (Option Entry) Wrong
 line_of xs = bare_of (before 35 xs)
 
 -- nothing is stated
@@ -80,12 +80,20 @@ put_number d which x =
     (Ok (record { numbers = slice_set d.numbers (place which) (Some x); lengths = d.lengths; block = d.block }))
 
 abbrev pub put_in : Found → Entry → Result Found Wrong
-put_in d Nothing = Ok d
 put_in d (Value which x) = put_number d which x
 put_in d (Many l) =
     cond (is_some d.lengths) (Err (Twice Lengths)) (Ok (record { numbers = d.numbers; lengths = Some l; block = d.block }))
 put_in d (Mark b) =
     cond (is_some d.block) (Err (Twice Block)) (Ok (record { numbers = d.numbers; lengths = d.lengths; block = Some b }))
+
+-- the same, where a line says something
+abbrev pub put_if : Found → Option Entry → Result Found Wrong
+put_if d None = Ok d
+put_if d (Some e) = put_in d e
+
+-- what is stated after one more line too
+abbrev pub put_row : Found → List ℕ → Result Found Wrong
+put_row d row = bind (line_of row) (put_if d)
 
 -- a fault of line k
 abbrev pub at_line : ℕ → Result Found Wrong → Result Found Fault
@@ -94,7 +102,7 @@ at_line k (Err w) = Err (Line k w)
 
 -- what is stated after line k too
 abbrev pub put_line : ℕ → Found → List ℕ → Result Found Fault
-put_line k d row = at_line k (bind (line_of row) (put_in d))
+put_line k d row = at_line k (put_row d row)
 
 -- what is stated after the lines from k on
 abbrev pub put_lines : ℕ → Found → List (List ℕ) → Result Found Fault

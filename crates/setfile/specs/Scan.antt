@@ -1,5 +1,6 @@
 -- Bytes: spaces, words, and the parts between marks.
 use Rattle.std.specs.Prelude.{◌≡◌, ℕ, Bool, true, false, cond, ◌||◌, List, [], ◌∷◌, Some, None, Option, ◌==◌}
+use Rattle.std.specs.List.{slice_split}
 use Rattle.std.specs.Borrow.{Bor}
 
 -- a space, a tab or a carriage return
@@ -30,15 +31,9 @@ abbrev pub after : ℕ → List ℕ → Option (List ℕ)
 after c [] = None
 after c (x ∷ xs) = cond (x == c) (Some xs) (after c xs)
 
--- x in front of the first part
-abbrev pub onto : ℕ → List (List ℕ) → List (List ℕ)
-onto x [] = (x ∷ []) ∷ []
-onto x (l ∷ ls) = (x ∷ l) ∷ ls
-
 -- the parts between the marks c: one more than there are marks
 abbrev pub parts : ℕ → List ℕ → List (List ℕ)
-parts c [] = [] ∷ []
-parts c (x ∷ xs) = cond (x == c) ([] ∷ parts c xs) (onto x (parts c xs))
+parts c = slice_split (λ x. x == c)
 
 -- what follows a word, where the bytes begin with it
 abbrev pub stripped : List ℕ → List ℕ → Option (List ℕ)

@@ -2,7 +2,7 @@
 use crate::field::{Field, Number};
 
 // What is wrong with a line.
-#[derive(Clone, Copy)]
+#[derive(Clone, Copy, Debug, PartialEq, Eq)]
 pub enum Wrong {
     // It does not begin with a field's name and an equals sign.
     NoField,
@@ -17,7 +17,7 @@ pub enum Wrong {
 }
 
 // A line that is wrong, by its number from 1, or a number that no line states.
-#[derive(Clone, Copy)]
+#[derive(Clone, Copy, Debug, PartialEq, Eq)]
 pub enum Fault {
     Line(usize, Wrong),
     Missing(Number),

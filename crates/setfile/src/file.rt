@@ -1,47 +1,22 @@
 // Reading a set file.
-ghost use Rattle.std.specs.Prelude.{◌≡◌};
+ghost use Rattle.std.specs.Prelude.{◌≡◌, Ok, Err, MatchResult};
 ghost use Rattle.setfile.specs.Scan.{parts};
-ghost use Rattle.setfile.specs.Meaning.{field_of, value_of, line_of, nothing, put_line, put_lines, draft_of, set_of};
+ghost use Rattle.setfile.specs.Meaning.{field_of, value_of, line_of, nothing, put_row, put_lines, draft_of, set_of};
 
 use crate::draft::Draft;
 use crate::fault::{Fault, Wrong};
-use crate::field::{Entry, Field, Number};
+use crate::field::{Entry, FIELDS, Field, Lengths, Number};
 use crate::found::Found;
 use crate::scan::{cut_at, is_blank, is_word};
-use crate::values::{empty_list, read_lengths, read_mark, read_number};
+use crate::values::{read_lengths, read_mark, read_number};
 
 // The field of a name.
 fn find_field(name: &[u8]) -> Option<Field>
     ensures { result ≡ field_of name.now }
 {
-    if is_word(name, b"n") {
-        return Some(Field::Scalar(Number::RingSize));
-    }
-    if is_word(name, b"h") {
-        return Some(Field::Scalar(Number::Weight));
-    }
-    if is_word(name, b"qb") {
-        return Some(Field::Scalar(Number::Qb));
-    }
-    if is_word(name, b"pb") {
-        return Some(Field::Scalar(Number::Pb));
-    }
-    if is_word(name, b"tb") {
-        return Some(Field::Scalar(Number::Tb));
-    }
-    if is_word(name, b"kappa") {
-        return Some(Field::Scalar(Number::Payload));
-    }
-    if is_word(name, b"f") {
-        return Some(Field::Scalar(Number::Flips));
-    }
-    if is_word(name, b"lengths") {
-        return Some(Field::Lengths);
-    }
-    if is_word(name, b"block") {
-        return Some(Field::Block);
-    }
-    None
+    FIELDS
+        .into_iter()
+        .find(|field| is_word(name, field.name().as_bytes()))
 }
 
 // What a value says of a field.
@@ -49,96 +24,62 @@ fn read_value(field: Field, text: &[u8]) -> Result<Entry, Wrong>
     ensures { result ≡ value_of field text.now }
 {
     match field {
-        Field::Scalar(which) => match read_number(text) {
-            Ok(value) => Ok(Entry::Value(which, value)),
-            Err(wrong) => Err(wrong),
-        },
-        Field::Lengths => match read_lengths(text) {
-            Ok(lengths) => Ok(Entry::List(lengths)),
-            Err(wrong) => Err(wrong),
-        },
-        Field::Block => match read_mark(text) {
-            Ok(block) => Ok(Entry::Mark(block)),
-            Err(wrong) => Err(wrong),
-        },
+        Field::Scalar(which) => read_number(text).map(|value| Entry::Value(which, value)),
+        Field::Lengths => read_lengths(text).map(Entry::List),
+        Field::Block => read_mark(text).map(Entry::Mark),
     }
 }
 
-// What a line says, its comment left out.
-fn read_line(row: &[u8]) -> Result<Entry, Wrong>
+// What a line says, its comment left out; nothing, where it is blank.
+fn read_line(row: &[u8]) -> Result<Option<Entry>, Wrong>
     ensures { result ≡ line_of row.now }
 {
-    let bare = cut_at(row, b'#').front;
+    let (bare, _) = cut_at(row, b'#');
     if is_blank(bare) {
-        return Ok(Entry::Nothing);
+        return Ok(None);
     }
-    let sides = cut_at(bare, b'=');
-    let Some(text) = sides.rest else {
+    let (name, Some(text)) = cut_at(bare, b'=') else {
         return Err(Wrong::NoField);
     };
-    match find_field(sides.front) {
-        Some(field) => read_value(field, text),
-        None => Err(Wrong::NoField),
-    }
+    let field = find_field(name).ok_or(Wrong::NoField)?;
+    read_value(field, text).map(Some)
 }
 
-// What is stated after one more line; a fault names the line.
-fn add_line(line: usize, found: Found, row: &[u8]) -> Result<Found, Fault>
-    ensures { result ≡ put_line line found row.now }
+// Takes what one more line states.
+fn put_line(found: &mut Found, row: &[u8]) -> Result<(), Wrong>
+    ensures { MatchResult result (λ _. put_row found.old row.now ≡ Ok found.new) (λ wrong. put_row found.old row.now ≡ Err wrong) }
 {
-    match read_line(row) {
-        Ok(entry) => match found.with_entry(entry) {
-            Ok(more) => Ok(more),
-            Err(wrong) => Err(Fault::Line(line, wrong)),
-        },
-        Err(wrong) => Err(Fault::Line(line, wrong)),
+    match read_line(row)? {
+        Some(entry) => found.put(entry),
+        None => Ok(()),
     }
 }
 
-// What all lines state.
-fn add_lines(text: &[u8]) -> Result<Found, Fault>
+// What all lines state; a fault names its line.
+fn read_lines(text: &[u8]) -> Result<Found, Fault>
     ensures { result ≡ put_lines 1 nothing (parts 10 text.now) }
 {
     let mut found = Found::nothing();
-    let mut line = 1;
-    let mut rest = text;
-    loop {
-        let sides = cut_at(rest, b'\n');
-        found = add_line(line, found, sides.front)?;
-        match sides.rest {
-            None => return Ok(found),
-            Some(next) => rest = next,
-        }
-        line += 1;
+    for (i, row) in text.split(|x| *x == b'\n').enumerate() {
+        put_line(&mut found, row).map_err(|wrong| Fault::Line(i + 1, wrong))?;
     }
+    Ok(found)
 }
 
 // The draft, if all numbers are stated.
 fn complete(found: &Found) -> Result<Draft, Fault>
     ensures { result ≡ draft_of found.now }
 {
-    let n = found.number(Number::RingSize)?;
-    let h = found.number(Number::Weight)?;
-    let qb = found.number(Number::Qb)?;
-    let pb = found.number(Number::Pb)?;
-    let tb = found.number(Number::Tb)?;
-    let kappa = found.number(Number::Payload)?;
-    let f = found.number(Number::Flips)?;
-    let block = found.block.unwrap_or(false);
-    let lengths = match found.lengths {
-        Some(lengths) => lengths,
-        None => empty_list(),
-    };
     Ok(Draft {
-        n,
-        h,
-        qb,
-        pb,
-        tb,
-        kappa,
-        f,
-        block,
-        lengths,
+        n: found.number(Number::RingSize)?,
+        h: found.number(Number::Weight)?,
+        qb: found.number(Number::Qb)?,
+        pb: found.number(Number::Pb)?,
+        tb: found.number(Number::Tb)?,
+        kappa: found.number(Number::Payload)?,
+        f: found.number(Number::Flips)?,
+        block: found.block.unwrap_or(false),
+        lengths: found.lengths.unwrap_or(Lengths::none()),
     })
 }
 
@@ -146,6 +87,5 @@ fn complete(found: &Found) -> Result<Draft, Fault>
 pub fn read_set(text: &[u8]) -> Result<Draft, Fault>
     ensures { result ≡ set_of text.now }
 {
-    let found = add_lines(text)?;
-    complete(&found)
+    complete(&read_lines(text)?)
 }

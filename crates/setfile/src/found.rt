@@ -1,6 +1,6 @@
 // What the lines so far state.
-ghost use Rattle.std.specs.Prelude.{◌≡◌, ◌<◌};
-ghost use Rattle.setfile.specs.Meaning.{number_count, place, nothing, put_number, put_in, stated};
+ghost use Rattle.std.specs.Prelude.{◌≡◌, ◌<◌, None, Some, Ok, Err, MatchResult, is_some, true};
+ghost use Rattle.setfile.specs.Meaning.{number_count, place, nothing, put_in, stated};
 
 use crate::NUMBERS;
 use crate::fault::{Fault, Wrong};
@@ -24,6 +24,17 @@ impl Number {
     }
 }
 
+// Keeps what a line states of a field, unless an earlier line stated it.
+fn state<T: Copy>(field: Field, slot: &mut Option<T>, value: T) -> Result<(), Wrong>
+    ensures { MatchResult result (λ _. (slot.old ≡ None) × (slot.new ≡ Some value)) (λ wrong. (is_some slot.old ≡ true) × (slot.new ≡ slot.old) × (wrong ≡ Wrong.Twice field)) }
+{
+    if slot.is_some() {
+        return Err(Wrong::Twice(field));
+    }
+    *slot = Some(value);
+    Ok(())
+}
+
 impl Found {
     // Nothing is stated.
     pub(crate) fn nothing() -> Found
@@ -36,47 +47,18 @@ impl Found {
         }
     }
 
-    // With a number that was not stated before.
-    fn with_number(self, which: Number, value: u16) -> Result<Found, Wrong>
-        ensures { result ≡ put_number self which value }
+    // Takes what one more line gives; what an earlier line stated stays.
+    pub(crate) fn put(&mut self, entry: Entry) -> Result<(), Wrong>
+        ensures { MatchResult result (λ _. put_in self.old entry ≡ Ok self.new) (λ wrong. (put_in self.old entry ≡ Err wrong) × (self.new ≡ self.old)) }
     {
-        let at = which.place();
-        if let Some(_) = self.numbers[at] {
-            return Err(Wrong::Twice(Field::Scalar(which)));
-        }
-        let mut numbers = self.numbers;
-        numbers[at] = Some(value);
-        Ok(Found {
-            numbers,
-            lengths: self.lengths,
-            block: self.block,
-        })
-    }
-
-    // With what one more line gives.
-    pub(crate) fn with_entry(self, entry: Entry) -> Result<Found, Wrong>
-        ensures { result ≡ put_in self entry }
-    {
-        let numbers = self.numbers;
         match entry {
-            Entry::Nothing => Ok(self),
-            Entry::Value(which, value) => self.with_number(which, value),
-            Entry::List(lengths) => match self.lengths {
-                Some(_) => Err(Wrong::Twice(Field::Lengths)),
-                None => Ok(Found {
-                    numbers,
-                    lengths: Some(lengths),
-                    block: self.block,
-                }),
-            },
-            Entry::Mark(block) => match self.block {
-                Some(_) => Err(Wrong::Twice(Field::Block)),
-                None => Ok(Found {
-                    numbers,
-                    lengths: self.lengths,
-                    block: Some(block),
-                }),
-            },
+            Entry::Value(which, value) => state(
+                Field::Scalar(which),
+                &mut self.numbers[which.place()],
+                value,
+            ),
+            Entry::List(lengths) => state(Field::Lengths, &mut self.lengths, lengths),
+            Entry::Mark(block) => state(Field::Block, &mut self.block, block),
         }
     }
 
@@ -84,9 +66,6 @@ impl Found {
     pub(crate) fn number(&self, which: Number) -> Result<u16, Fault>
         ensures { result ≡ stated self.now which }
     {
-        match self.numbers[which.place()] {
-            Some(value) => Ok(value),
-            None => Err(Fault::Missing(which)),
-        }
+        self.numbers[which.place()].ok_or(Fault::Missing(which))
     }
 }

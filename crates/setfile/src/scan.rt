@@ -1,83 +1,43 @@
-// Scanning bytes: spaces, words, and the parts between marks.
+// Scanning bytes: spaces, words, and the two sides of a mark.
 ghost use Rattle.std.specs.Prelude.{◌≡◌};
-ghost use Rattle.setfile.specs.Scan.{space, skipped, before, after, stripped, blank, says, Gives};
-
-// What stands before the first mark in some bytes, and what follows it where there is one.
-#[derive(Clone, Copy)]
-pub(crate) struct Cut<'a> {
-    pub front: &'a [u8],
-    pub rest: Option<&'a [u8]>,
-}
+ghost use Rattle.setfile.specs.Scan.{space, skipped, before, after, blank, says, Gives};
 
 // A carriage return counts as a space, so a line may end in one.
 fn is_space(x: u8) -> bool
     ensures { result ≡ space x }
 {
-    x == b' ' || x == b'\t' || x == b'\r'
+    matches!(x, b' ' | b'\t' | b'\r')
 }
 
 // The bytes without the spaces in front.
 pub(crate) fn skip(s: &[u8]) -> &[u8]
     ensures { result.now ≡ skipped s.now }
 {
-    for (i, x) in s.iter().enumerate() {
-        if !is_space(*x) {
-            return &s[i..s.len()];
-        }
-    }
-    &s[s.len()..s.len()]
+    let start = s.iter().position(|x| !is_space(*x)).unwrap_or(s.len());
+    &s[start..]
 }
 
 // Whether nothing but spaces stands there.
 pub(crate) fn is_blank(s: &[u8]) -> bool
     ensures { result ≡ blank s.now }
 {
-    match skip(s) {
-        [] => true,
-        _ => false,
-    }
+    skip(s).is_empty()
 }
 
-// The bytes on the two sides of the first mark.
-pub(crate) fn cut_at(s: &[u8], mark: u8) -> Cut<'_>
-    ensures front { result.front.now ≡ before mark s.now }
-    ensures rest { Gives result.rest (after mark s.now) }
+// What stands before the first mark, and what follows it where there is one.
+pub(crate) fn cut_at(s: &[u8], mark: u8) -> (&[u8], Option<&[u8]>)
+    ensures front { result.0.now ≡ before mark s.now }
+    ensures rest { Gives result.1 (after mark s.now) }
 {
-    for (i, x) in s.iter().enumerate() {
-        if *x == mark {
-            return Cut {
-                front: &s[0..i],
-                rest: Some(&s[i + 1..s.len()]),
-            };
-        }
+    match s.iter().position(|x| *x == mark) {
+        Some(i) => (&s[..i], Some(&s[i + 1..])),
+        None => (s, None),
     }
-    Cut {
-        front: s,
-        rest: None,
-    }
-}
-
-// What follows a word, where the bytes begin with it.
-fn strip<'a>(s: &'a [u8], word: &[u8]) -> Option<&'a [u8]>
-    ensures { Gives result (stripped word.now s.now) }
-{
-    for (i, p) in word.iter().enumerate() {
-        if i >= s.len() {
-            return None;
-        }
-        if s[i] != *p {
-            return None;
-        }
-    }
-    Some(&s[word.len()..s.len()])
 }
 
 // Whether the bytes are this word, with free spaces around it.
 pub(crate) fn is_word(s: &[u8], word: &[u8]) -> bool
     ensures { result ≡ says word.now s.now }
 {
-    match strip(skip(s), word) {
-        Some(rest) => is_blank(rest),
-        None => false,
-    }
+    skip(s).strip_prefix(word).is_some_and(is_blank)
 }
