@@ -1,6 +1,7 @@
 -- What a set file means, line by line.
 use Rattle.std.specs.Prelude.{ℕ, ◌+◌, false, cond, List, [], ◌∷◌, replicate, is_some, Some, None, Ok, Err, codes, Option, Result, slice_index_or, slice_set}
 use Rattle.std.specs.Option.{unwrap_or}
+use Rattle.params.specs.declared.proposal.Proposal.{Proposal}
 use Rattle.setfile.specs.Scan.{blank, before, after, parts, says}
 use Rattle.setfile.specs.Values.{bind, number_of, no_lengths, lengths_of, mark_of}
 use Rattle.setfile.specs.declared.field.Number.{Number}
@@ -10,7 +11,7 @@ use Rattle.setfile.specs.declared.field.Field.TheVariants.{Scalar, Lengths, Bloc
 use Rattle.setfile.specs.declared.field.Entry.{Entry}
 use Rattle.setfile.specs.declared.field.Entry.TheVariants.{Value, List as Many, Mark}
 use Rattle.setfile.specs.declared.found.Found.{Found}
-use Rattle.setfile.specs.declared.draft.Draft.{Draft}
+use Rattle.setfile.specs.declared.field.Lengths.{Lengths as Held}
 use Rattle.setfile.specs.declared.fault.Wrong.{Wrong}
 use Rattle.setfile.specs.declared.fault.Wrong.TheVariants.{NoField, Twice}
 use Rattle.setfile.specs.declared.fault.Fault.{Fault}
@@ -117,6 +118,10 @@ given_or (Some x) which = Ok x
 -- a number that has to be stated
 abbrev pub stated : Found → Number → Result ℕ Fault
 stated d which = given_or (slice_index_or d.numbers (place which) None) which
+
+-- a set as a file states it
+abbrev pub Draft : Type 0
+Draft = Proposal Held
 
 -- all that has to be stated: a list that is not is empty, and a mark that is not is no
 abbrev pub draft_of : Found → Result Draft Fault

@@ -2,7 +2,7 @@
 use Rattle.std.specs.Prelude.{◌≡◌}
 use Rattle.params.specs.Proposed.{LentProposal}
 use Rattle.setfile.specs.Values.{given_lengths}
-use Rattle.setfile.specs.declared.draft.Draft.{Draft}
+use Rattle.setfile.specs.Meaning.{Draft}
 
 -- the proposal has the draft's numbers, lengths and mark
 pub record Proposes (p : LentProposal) (d : Draft) : Type 0 where

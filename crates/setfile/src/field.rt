@@ -47,6 +47,7 @@ pub struct Lengths {
 
 impl Lengths {
     // No lengths.
+    #[tactic(auto, unfolding(crate::specs::Values::no_lengths))]
     pub(crate) fn none() -> Lengths
         ensures { result ≡ no_lengths }
     {

@@ -15,7 +15,8 @@ fn find_field(name: &[u8]) -> Option<Field>
     ensures { result ≡ field_of name.now }
 {
     FIELDS
-        .into_iter()
+        .iter()
+        .copied()
         .find(|field| is_word(name, field.name().as_bytes()))
 }
 

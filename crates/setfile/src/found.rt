@@ -37,6 +37,7 @@ fn state<T: Copy>(field: Field, slot: &mut Option<T>, value: T) -> Result<(), Wr
 
 impl Found {
     // Nothing is stated.
+    #[tactic(auto, unfolding(crate::specs::Meaning::nothing))]
     pub(crate) fn nothing() -> Found
         ensures { result ≡ nothing }
     {

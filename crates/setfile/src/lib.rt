@@ -11,9 +11,6 @@ mod scan;
 pub mod shown;
 mod values;
 
-// The largest number that a file may state.
-pub const LARGEST_NUMBER: u16 = u16::MAX;
-
 // How many check lengths are kept: one more than a set may have, so that too many are seen to be too many.
 pub const KEPT_LENGTHS: usize = 11;
 

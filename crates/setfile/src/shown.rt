@@ -2,7 +2,6 @@
 ghost use Rattle.std.specs.Prelude.{◌≡◌, Some};
 ghost use Rattle.setfile.specs.Shown.{number_name, field_name, wrong_words, fault_line};
 
-use crate::LARGEST_NUMBER;
 use crate::fault::{Fault, Wrong};
 use crate::field::{Field, Number};
 use std::fmt;
@@ -44,7 +43,7 @@ impl fmt::Display for Wrong {
         match self {
             Wrong::NoField => write!(f, "no field of a set stands here"),
             Wrong::NoNumber => write!(f, "a number is wanted here"),
-            Wrong::TooLarge => write!(f, "a number is above {LARGEST_NUMBER}"),
+            Wrong::TooLarge => write!(f, "a number is above 65535"),
             Wrong::NoMark => write!(f, "block is yes or no"),
             Wrong::Twice(field) => {
                 let name = field.name();

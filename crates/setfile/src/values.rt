@@ -48,10 +48,11 @@ pub(crate) fn read_lengths(s: &[u8]) -> Result<Lengths, Wrong>
     ensures { result ≡ lengths_of s.now }
 {
     let mut lengths = Lengths::none();
-    if !is_blank(s) {
-        for part in s.split(|x| *x == b',') {
-            lengths.push(read_number(part)?);
-        }
+    if is_blank(s) {
+        return Ok(lengths);
+    }
+    for part in s.split(|x| *x == b',') {
+        lengths.push(read_number(part)?);
     }
     Ok(lengths)
 }
