@@ -5,6 +5,7 @@ use params::set::Set;
 use rack::{PLACES, Record};
 use rackfile::{Image, Numbers, decode, encode};
 use setfile::file::read_set;
+use setfile::proposed::proposal;
 use words::Refusal;
 
 // The set that a file states.
@@ -14,7 +15,7 @@ pub fn load_set(rt: &HostRuntime, path: &str) -> Result<Set, Stop> {
         Ok(draft) => draft,
         Err(fault) => return Err(Stop::BadSet(owned(rt, path)?, fault)),
     };
-    match Set::make(&draft.proposal()) {
+    match Set::make(&proposal(&draft)) {
         Ok(set) => Ok(set),
         Err(fault) => Err(Stop::Refused(Refusal { fault })),
     }

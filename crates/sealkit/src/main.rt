@@ -9,6 +9,7 @@ use crate::report::{Part, print_part, print_refusals, print_table};
 use crate::stop::Stop;
 use params::set::Set;
 use setfile::file::read_set;
+use setfile::proposed::proposal;
 use std::process::ExitCode;
 use std::rt::{Env, Files};
 use std::{env, fs};
@@ -87,7 +88,7 @@ fn load_set(rt: &HostRuntime, path: String) -> Result<Set, Stop> {
         Ok(draft) => draft,
         Err(fault) => return Err(Stop::BadFile(path, fault)),
     };
-    match Set::make(&draft.proposal()) {
+    match Set::make(&proposal(&draft)) {
         Ok(set) => Ok(set),
         Err(fault) => Err(Stop::Refused(Refusal { fault })),
     }
