@@ -1,5 +1,5 @@
 -- What follows for a proposal and its code where rules are kept.
-use Rattle.std.proofs.Common.{◌≡◌, ℕ, ◌-◌, ◌≤◌, ◌++◌, length, get_or, replicate, sym, ap, subst, arith}
+use Rattle.std.proofs.Common.{◌≡◌, ℕ, ◌-◌, ◌≤◌, ◌++◌, length, get_or, replicate, ap, arith}
 use Rattle.std.proofs.lemmas.List.{get_or_append_left}
 use Rattle.params.specs.Checks.{LengthsFit, symbol_count}
 use Rattle.params.specs.Limits.{most_checks, most_n}
@@ -28,19 +28,18 @@ all_rules p six lengths mark count Lengths = lengths
 all_rules p six lengths mark count BlockMark = mark
 all_rules p six lengths mark count SymbolCount = count
 
-proposed_fits : (p : LentProposal) → KeepsRules p → CodeFits (shape_of p)
-proposed_fits p k = record {
-  low = (k Payload).0;
-  high = (k Payload).1;
-  bytes = (k Payload).2;
-  few = k Flips;
-  lengths = table_fits p (k Lengths);
-  mark = k BlockMark;
-}
-
--- a proposal that keeps the rules, with its code and symbol count
-pub judged : (p : LentProposal) (s : Shape) (mu : ℕ) → KeepsRules p → s ≡ shape_of p → mu ≡ symbol_count s → Judged p s mu
-judged p s mu k same count = record { rules = k; same = same; count = count; fits = subst (λ (x : Shape). CodeFits x) (sym same) (proposed_fits p k) }
+-- the code of a proposal that keeps the rules on codes
+pub proposed_fits : (p : LentProposal) → KeepsBelow 7 p → Keeps Lengths p → Keeps BlockMark p → CodeFits (shape_of p)
+proposed_fits p six lengths mark =
+    let payload = six Payload (omega arith) in
+    record {
+      low = payload.0;
+      high = payload.1;
+      bytes = payload.2;
+      few = six Flips (omega arith);
+      lengths = table_fits p lengths;
+      mark = mark;
+    }
 
 -- a symbol count within n is within the largest n
 pub count_short : (p : LentProposal) (s : Shape) (mu : ℕ) → Judged p s mu → mu ≤ most_n

@@ -1,6 +1,10 @@
 -- Laws of sums over a range.
-use Rattle.std.proofs.Common.{◌≡◌, ℕ, zero, suc, ◌+◌, ◌-◌, ◌<◌, ◌≤◌, Bool, true, cond, eqb, drop, replicate, sym, refl, ap, ◌∙◌, ap₂, inl, inr, add-one, arith}
+use Rattle.std.proofs.Common.{◌≡◌, ℕ, zero, suc, ◌+◌, ◌-◌, ◌*◌, ◌<◌, ◌≤◌, Bool, true, cond, eqb, List, length, get_or, map, take, drop, replicate, sym, refl, ap, ◌∙◌, ap₂, inl, inr, add-one, arith}
 use Rattle.std.proofs.lemmas.List.{drop-replicate}
+use Rattle.std.proofs.lemmas.List.Sums.{sum_by_more, sum-map, length-filter}
+use Rattle.std.proofs.lemmas.List.FromFn.{sum_by-map-range_with_len_more}
+use Rattle.std.specs.List as list
+use Rattle.std.specs.List.{filter, range_with_len}
 use Rattle.std.proofs.lemmas.Bool.{cases_eq, cases_Bool, eq-eqb, ne_eqb, cond-true, cond-false}
 use Rattle.params.specs.Sums.{sum, bit}
 
@@ -16,6 +20,36 @@ pub sum_same : (n : ℕ) (F G : ℕ → ℕ) → ((i : ℕ) → i < n → F i �
 unfolding sum
 sum_same zero F G h = refl
 sum_same (suc n) F G h = ap₂ (λ x y. x + y) (sum_same n F G (λ i lt. h i (omega arith))) (h n (omega arith))
+
+-- a sum of terms that are small
+pub sum_at_most : (n m : ℕ) (F : ℕ → ℕ) → ((i : ℕ) → i < n → F i ≤ m) → sum n F ≤ n * m
+unfolding sum
+sum_at_most zero m F h = omega arith
+sum_at_most (suc n) m F h = omega (arith, sum_at_most n m F (λ i lt. h i (omega arith)), h n (omega arith))
+
+-- the first numbers of a list, added up
+pub sum_front : (n : ℕ) (xs : List ℕ) → n ≤ length xs → list.sum (take n xs) ≡ sum n (λ j. get_or xs j 0)
+unfolding sum
+sum_front zero xs h = refl
+sum_front (suc n) xs h =
+    let more : list.sum (take (n + 1) xs) ≡ list.sum (take n xs) + get_or xs n 0 = sum_by_more (λ x. x) xs n 0 (omega arith) in
+    ap (λ k. list.sum (take k xs)) (sym (add-one n)) ∙ more ∙ ap (λ v. v + get_or xs n 0) (sum_front n xs (omega arith))
+
+-- a sum over the numbers below n, as they come in turn
+pub sum_range : (n : ℕ) (F : ℕ → ℕ) → list.sum_by F (range_with_len 0 n) ≡ sum n F
+unfolding sum
+sum_range n F = sym (sum-map F (range_with_len 0 n)) ∙ turns n
+  where
+    turns : (k : ℕ) → list.sum (map F (range_with_len 0 k)) ≡ sum k F
+    turns zero = refl
+    turns (suc k) =
+        ap (λ i. list.sum (map F (range_with_len 0 i))) (sym (add-one k))
+        ∙ sum_by-map-range_with_len_more (λ x. x) F 0 k k (omega arith)
+        ∙ ap (λ v. v + F k) (turns k)
+
+-- how many of the numbers below n pass a test
+pub count_range : (n : ℕ) (test : ℕ → Bool) → length (filter test (range_with_len 0 n)) ≡ sum n (λ j. bit (test j))
+count_range n test = length-filter test (range_with_len 0 n) ∙ sum_range n (λ j. bit (test j))
 
 -- one term set apart
 abbrev pub others : ℕ → (ℕ → ℕ) → ℕ → ℕ

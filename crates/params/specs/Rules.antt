@@ -72,7 +72,6 @@ pub record Judged (p : LentProposal) (s : Shape) (mu : ℕ) : Type 0 where
   pub rules : KeepsRules p
   pub same : s ≡ shape_of p
   pub count : mu ≡ symbol_count s
-  pub fits : CodeFits s
 
 -- r is the lowest rule that the proposal breaks
 pub record LowestBroken (r : Rule) (p : LentProposal) : Type 0 where

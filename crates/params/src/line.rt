@@ -30,9 +30,7 @@ impl Moduli {
     {
         1u32 << self.tb
     }
-}
 
-impl Moduli {
     // Half of what a symbol stands for: q/(2·t).
     fn half_symbol(&self) -> u32
         ensures value { result ≡ q self.now / (2 * t self.now) }
@@ -48,13 +46,6 @@ impl Moduli {
     {
         self.q() / self.p()
     }
-}
-
-// Whether one side of the line is under the other.
-fn under(left: u32, right: u32) -> bool
-    ensures { Decides result (left < right) }
-{
-    right > left
 }
 
 impl Set {
@@ -84,7 +75,7 @@ impl Set {
         ensures line { Decides result (BelowLine self.now) }
         ensures quarter { Decides result (bound self.now < q self.now.moduli / 4) }
     {
-        under(self.line_left(), self.line_right())
+        self.line_left() < self.line_right()
     }
 
     // The bytes of a key.

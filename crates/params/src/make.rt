@@ -2,18 +2,17 @@
 ghost use Rattle.std.specs.Prelude.{◌≡◌, ◌≤◌, MatchResult};
 ghost use Rattle.params.specs.Limits.{most_n};
 ghost use Rattle.params.specs.Checks.{CodeRule, symbol_count};
-ghost use Rattle.params.specs.Rules.{CodeFits, Keeps, Lawful, NamesPair, Told};
+ghost use Rattle.params.specs.Rules.{Keeps, Lawful, NamesPair, Told};
 ghost use Rattle.params.specs.declared.proposal.Rule.TheVariants.{Exponents, Balance};
 ghost use Rattle.params.specs.Made.{Holds};
 ghost use Rattle.params.specs.declared.proposal.SetFault.TheVariants.{Broken};
 
-use crate::blocks::shared_pair;
+use crate::blocks::Layout;
 use crate::code::Code;
 use crate::moduli::Moduli;
 use crate::proposal::{Proposal, Rule, SetFault};
 use crate::rules::judge;
 use crate::set::Set;
-use crate::shape::Shape;
 
 impl From<Rule> for SetFault {
     ghost from_gives = { λ rule fault. fault ≡ Broken rule };
@@ -36,14 +35,14 @@ fn lawful_moduli(p: &Proposal<&[u16]>) -> Moduli
     }
 }
 
-// The code of a shape, if it keeps the code rule.
-fn lawful_code(shape: Shape, mu: u16) -> Result<Code, SetFault>
-    requires fits { CodeFits shape }
-    requires count { mu ≡ symbol_count shape }
+// The code that is laid out, if it keeps the code rule.
+fn lawful_code(layout: &Layout, mu: u16) -> Result<Code, SetFault>
+    requires count { mu ≡ symbol_count layout.now.shape }
     requires short { mu ≤ most_n }
-    ensures { MatchResult result (λ c. CodeRule shape × (c.shape ≡ shape) × (c.mu ≡ mu)) (λ e. NamesPair e shape) }
+    ensures { MatchResult result (λ c. CodeRule layout.now.shape × (c.shape ≡ layout.now.shape) × (c.mu ≡ mu)) (λ e. NamesPair e layout.now.shape) }
 {
-    match shared_pair(&shape) {
+    let shape = layout.shape;
+    match layout.shared_pair() {
         Some(d) => Err(SetFault::Shared(0, d)),
         None => Ok(Code { shape, mu }),
     }
@@ -54,9 +53,9 @@ impl Set {
     pub fn make(proposal: &Proposal<&[u16]>) -> Result<Set, SetFault>
         ensures { MatchResult result (λ s. Lawful proposal.now × Holds s proposal.now) (λ e. Told e proposal.now × (Lawful proposal.now → ⊥)) }
     {
-        let (shape, mu) = judge(proposal)?;
+        let (layout, mu) = judge(proposal)?;
         let moduli = lawful_moduli(proposal);
-        let code = lawful_code(shape, mu)?;
+        let code = lawful_code(&layout, mu)?;
         Ok(Set {
             n: proposal.n,
             h: proposal.h,

@@ -35,10 +35,10 @@ impl<L> Proposal<L> {
     }
 }
 
-// The nine rules of a set, in their order.
+// The nine rules of a set, numbered in their order.
 #[derive(Clone, Copy, Debug, PartialEq, Eq)]
 pub enum Rule {
-    RingSize,
+    RingSize = 1,
     Weight,
     Exponents,
     Balance,

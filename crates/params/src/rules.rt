@@ -1,10 +1,11 @@
 // The rules of a set, tried in their order.
-ghost use Rattle.std.specs.Prelude.{◌≡◌, ℕ, ◌-◌, ◌<◌, ◌≤◌, ◌++◌, length, replicate, Decides, MatchResult, slice_index};
+ghost use Rattle.std.specs.Prelude.{◌≡◌, ℕ, ◌-◌, ◌<◌, ◌≤◌, ◌++◌, length, replicate, true, false, Decides, MatchResult, slice_index};
 ghost use Rattle.params.specs.Limits.{most_kappa, most_flips, most_checks};
 ghost use Rattle.params.specs.Checks.{LengthsFit, MarkFits, symbol_count};
 ghost use Rattle.params.specs.Rules.{Judged, Keeps, KeepsBelow, LengthFits, LowestBroken, refusal_numbers, rule_number, shape_of};
 ghost use Rattle.params.specs.declared.proposal.Rule.TheVariants.{RingSize, Weight, Exponents, Balance, Payload, Lengths};
 
+use crate::blocks::Layout;
 use crate::proposal::{Proposal, Rule, SetFault};
 use crate::shape::Shape;
 use crate::{LONGEST_CHECK, MOST_CHECKS, MOST_FLIPS, MOST_KAPPA, MOST_N, WORD_BITS};
@@ -14,17 +15,7 @@ impl Rule {
     pub fn number(self) -> u16
         ensures { result ≡ rule_number self }
     {
-        match self {
-            Rule::RingSize => 1,
-            Rule::Weight => 2,
-            Rule::Exponents => 3,
-            Rule::Balance => 4,
-            Rule::Payload => 5,
-            Rule::Flips => 6,
-            Rule::Lengths => 7,
-            Rule::BlockMark => 8,
-            Rule::SymbolCount => 9,
-        }
+        self as u16
     }
 }
 
@@ -74,12 +65,9 @@ fn keeps_payload(p: &Proposal<&[u16]>) -> bool
 fn lengths_fit(lengths: &[u16]) -> bool
     ensures { Decides result ((k : ℕ) → k < length lengths.now → LengthFits (slice_index lengths.now k)) }
 {
-    for long in lengths {
-        if *long < 1 || *long > LONGEST_CHECK {
-            return false;
-        }
-    }
-    true
+    lengths
+        .iter()
+        .all(|long| *long >= 1 && *long <= LONGEST_CHECK)
 }
 
 fn keeps_lengths(p: &Proposal<&[u16]>) -> bool
@@ -94,8 +82,7 @@ fn padded(lengths: &[u16]) -> [u16; MOST_CHECKS]
     ensures { result ≡ lengths.now ++ replicate (most_checks - length lengths.now) 0 }
 {
     let mut table = [0u16; MOST_CHECKS];
-    let count = lengths.len();
-    table[0..count].copy_from_slice(lengths);
+    table[..lengths.len()].copy_from_slice(lengths);
     table
 }
 
@@ -120,60 +107,35 @@ fn keeps_mark(shape: &Shape) -> bool
     !shape.block || (shape.f >= 1 && shape.kappa % shape.lengths[0] == 0)
 }
 
-// The symbol count μ: the payload and all checks.
-fn count_symbols(shape: &Shape) -> u16
-    requires few { shape.now.f ≤ most_flips }
-    requires high { shape.now.kappa ≤ most_kappa }
-    requires lengths { LengthsFit shape.now }
-    ensures { result ≡ symbol_count shape.now }
+// Goes on where a rule is kept.
+fn ask(kept: bool, rule: Rule) -> Result<(), Rule>
+    ensures { MatchResult result (λ _. kept ≡ true) (λ r. (r ≡ rule) × (kept ≡ false)) }
 {
-    let mut count = shape.kappa;
-    for j in 0..2 * shape.f as usize {
-        count += shape.lengths[j];
-    }
-    count
+    if kept { Ok(()) } else { Err(rule) }
 }
 
 // Rules 1 to 6, which speak of numbers alone.
 fn judge_numbers(p: &Proposal<&[u16]>) -> Result<(), Rule>
     ensures { MatchResult result (λ _. KeepsBelow 7 p.now) (λ k. LowestBroken k p.now) }
 {
-    if !keeps_ring_size(p) {
-        return Err(Rule::RingSize);
-    }
-    if !keeps_weight(p) {
-        return Err(Rule::Weight);
-    }
-    if !keeps_exponents(p) {
-        return Err(Rule::Exponents);
-    }
-    if !keeps_balance(p) {
-        return Err(Rule::Balance);
-    }
-    if !keeps_payload(p) {
-        return Err(Rule::Payload);
-    }
-    if p.f > MOST_FLIPS {
-        return Err(Rule::Flips);
-    }
-    Ok(())
+    ask(keeps_ring_size(p), Rule::RingSize)?;
+    ask(keeps_weight(p), Rule::Weight)?;
+    ask(keeps_exponents(p), Rule::Exponents)?;
+    ask(keeps_balance(p), Rule::Balance)?;
+    ask(keeps_payload(p), Rule::Payload)?;
+    ask(p.f <= MOST_FLIPS, Rule::Flips)
 }
 
 // All nine rules: the code that is proposed and its symbol count, or the lowest rule that is broken.
-pub(crate) fn judge(p: &Proposal<&[u16]>) -> Result<(Shape, u16), Rule>
-    ensures { MatchResult result (λ s. Judged p.now s.0 s.1) (λ k. LowestBroken k p.now) }
+pub(crate) fn judge(p: &Proposal<&[u16]>) -> Result<(Layout, u16), Rule>
+    ensures { MatchResult result (λ s. Judged p.now s.0.shape s.1) (λ k. LowestBroken k p.now) }
 {
     judge_numbers(p)?;
-    if !keeps_lengths(p) {
-        return Err(Rule::Lengths);
-    }
+    ask(keeps_lengths(p), Rule::Lengths)?;
     let shape = proposed_shape(p);
-    if !keeps_mark(&shape) {
-        return Err(Rule::BlockMark);
-    }
-    let mu = count_symbols(&shape);
-    if mu > p.n {
-        return Err(Rule::SymbolCount);
-    }
-    Ok((shape, mu))
+    ask(keeps_mark(&shape), Rule::BlockMark)?;
+    let layout = Layout { shape };
+    let mu = layout.count_symbols();
+    ask(mu <= p.n, Rule::SymbolCount)?;
+    Ok((layout, mu))
 }

@@ -1,12 +1,6 @@
-use Rattle.std.proofs.Common.{Decides, arith}
-use Rattle.std.proofs.lemmas.Bool.Decides.{Decides-like}
-use Rattle.params.specs.Sizes.{BelowLine}
+use Rattle.std.proofs.Common.{rules}
 use Rattle.params.proofs.Lines.{quarter_from_line, line_from_quarter}
 use Rattle.params.proofs.set.Set.below_line.Goals as goal
 
-pub returns : goal.returns
-returns c =
-    let s = c.args.self.now in
-    let line : Decides c.under.result (BelowLine s) =
-    Decides-like c.under.result (λ h. omega (arith, c.line_left.ensures, c.line_right.ensures)) (λ h. omega (arith, c.line_left.ensures, c.line_right.ensures)) c.under.ensures in
-    record { line = line; quarter = Decides-like c.under.result (quarter_from_line s) (line_from_quarter s) line }
+pub returns-clause-quarter : goal.returns-clause-quarter
+returns-clause-quarter c = search (rules, quarter_from_line c.args.self.now, line_from_quarter c.args.self.now)

@@ -7,15 +7,15 @@ use Rattle.params.proofs.set.Set.make.Goals as goal
 
 pub lawful_moduli-moduli-requires : goal.lawful_moduli-moduli-requires
 lawful_moduli-moduli-requires c =
-    let k = c.in_ok-shape.ensures.rules in record { exponents = k Exponents; balance = k Balance }
+    let k = c.in_ok-layout.ensures.rules in record { exponents = k Exponents; balance = k Balance }
 
 pub lawful_code-requires : goal.lawful_code-requires
 lawful_code-requires c =
-    let j = c.in_ok-shape.ensures in record { fits = j.fits; count = j.count; short = count_short _ _ _ j }
+    let j = c.in_ok-layout.ensures in record { count = j.count; short = count_short _ _ _ j }
 
 pub invariant_of-result : goal.invariant_of-result
 invariant_of-result c =
-    let j = c.in_ok-shape.ensures in
+    let j = c.in_ok-layout.ensures in
     let n = j.rules RingSize in
     let h = j.rules Weight in
     let room : c.in_ok-code.code.mu ≤ c.args.proposal.now.n = omega (arith, c.in_ok-code.ensures.2, j.count, ap symbol_count j.same, j.rules SymbolCount) in
@@ -23,7 +23,7 @@ invariant_of-result c =
 
 pub returns : goal.returns
 returns c =
-    let j = c.in_ok-shape.ensures in
+    let j = c.in_ok-layout.ensures in
     let k = c.in_ok-code.ensures in
     let m = c.lawful_moduli-moduli.ensures in (
       record { rules = j.rules; code = subst (λ (s : Shape). CodeRule s) j.same k.0 },
