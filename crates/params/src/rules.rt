@@ -21,6 +21,7 @@ impl Rule {
 
 impl SetFault {
     // The number of the refusal and its values, filled with zeros.
+    // Kept: the C interface tells a refusal by these numbers.
     pub fn numbers(self) -> [u16; 3]
         ensures { result ≡ refusal_numbers self ++ replicate (3 - length (refusal_numbers self)) 0 }
     {
