@@ -1,11 +1,6 @@
 -- The values of a list of bytes, one at a time.
-use Rattle.std.proofs.Common.{◌≡◌, ℕ, ◌+◌, ◌*◌, ◌<◌, ◌≤◌, List, [], ◌∷◌, length, get_or, drop, refl, arith}
+use Rattle.std.proofs.Common.{ℕ, ◌+◌, ◌*◌, ◌<◌, ◌≤◌, List, [], ◌∷◌, length, arith}
 use Rattle.sampler.specs.Values.{values}
-
-pub values_more : (bytes : List ℕ) → 2 ≤ length bytes → values bytes ≡ (get_or bytes 0 0 + 256 * get_or bytes 1 0) ∷ values (drop 2 bytes)
-values_more [] l = absurd (omega arith)
-values_more (x ∷ []) l = absurd (omega arith)
-values_more (x ∷ y ∷ bytes) l = refl
 
 -- The values take all the bytes, but for a single one left over.
 pub values_span : (bytes : List ℕ) → (2 * length (values bytes) ≤ length bytes) × (length bytes < 2 * length (values bytes) + 2)

@@ -1,7 +1,7 @@
 // The sampler: expands a seed to the public polynomial or to a secret, by values drawn from a source.
 #![tactic(auto)]
 
-ghost use Rattle.std.specs.Prelude.{◌≡◌, ◌+◌, ◌%◌, ◌^◌, ◌<◌, ◌≤◌, [], ◌∷◌, length, take, Ok, Err, MatchResult};
+ghost use Rattle.std.specs.Prelude.{◌≡◌, ◌+◌, ◌%◌, ◌^◌, ◌<◌, ◌≤◌, [], ◌∷◌, length, take, Ok, Err, MatchResult, Decides};
 ghost use Rattle.sampler.specs.Values.{values};
 ghost use Rattle.sampler.specs.Positions.{marks_room, kept, Marked};
 ghost use Rattle.sampler.specs.Expanded.{public_label, secret_label, expanded_public, expanded_secret};
@@ -10,11 +10,12 @@ ghost use Rattle.sampler.specs.Facts.{Reduced, Picked, Shortfall};
 use params::MOST_N;
 use source::{Source, SourceFault};
 
-/// The label of the public polynomial.
-pub const PUBLIC_LABEL: u8 = 1;
-
-/// The label of a secret.
-pub const SECRET_LABEL: u8 = 2;
+/// What a seed is expanded to. Its number is the label that a source is started with.
+#[derive(Clone, Copy, PartialEq, Eq, Debug)]
+pub enum Label {
+    Public = 1,
+    Secret = 2,
+}
 
 // The marks of the occupancy table, one for each position there can be.
 const MARKS: usize = MOST_N as usize;
@@ -27,18 +28,28 @@ const VALUES: usize = 65536;
 #[derive(Clone, Copy, PartialEq, Eq, Debug)]
 pub struct SamplerFault {
     pub source: SourceFault,
-    pub label: u8,
+    pub label: Label,
     pub entry: u16,
     pub bytes: u64,
 }
 
-// The next value: one draw of two bytes, the low byte first.
-fn next_value<S: Source>(source: &mut S) -> Result<u16, SourceFault>
+// The next value: one draw of two bytes, the low byte first. A refusal tells of the entry being made and of the bytes drawn before.
+fn next_value<S: Source>(
+    source: &mut S,
+    label: Label,
+    entry: u16,
+    bytes: u64,
+) -> Result<u16, SamplerFault>
     ensures book { S.book source.new ≡ S.book source.old }
-    ensures cases { MatchResult result (λ v. values (S.rest source.old) ≡ v ∷ values (S.rest source.new)) (λ _. values (S.rest source.old) ≡ []) }
+    ensures cases { MatchResult result (λ v. values (S.rest source.old) ≡ v ∷ values (S.rest source.new)) (λ e. (values (S.rest source.old) ≡ []) × (e ≡ record { source = SourceFault.Short; label = label; entry = entry; bytes = bytes })) }
 {
     let mut pair = [0u8; 2];
-    source.draw(&mut pair)?;
+    source.draw(&mut pair).map_err(|source| SamplerFault {
+        source,
+        label,
+        entry,
+        bytes,
+    })?;
     Ok(u16::from_le_bytes(pair))
 }
 
@@ -50,26 +61,58 @@ fn cut(value: u16, qb: u32) -> u16
     (value as u32 % (1 << qb)) as u16
 }
 
-// Keeps the position of a value, unless the value is too large or the position is marked. Answers how many are kept now.
-fn keep(table: &mut [u8; MARKS], positions: &mut [u16], count: usize, n: u16, value: u16) -> usize
-    requires range { (8 ≤ n) × (n ≤ marks_room) }
-    requires room { count < length positions.old }
-    requires marked { Marked table.old (take count positions.old) }
-    ensures marked { Marked table.new (take result positions.new) }
-    ensures kept { take result positions.new ≡ kept n (take count positions.old) value }
-    ensures more { (count ≤ result) × (result ≤ count + 1) }
-{
-    let share = VALUES / n as usize;
-    let value = value as usize;
-    if value < share * n as usize {
-        let position = value / share;
-        if table[position] == 0 {
-            table[position] = 1;
-            positions[count] = position as u16;
-            return count + 1;
+// The positions kept, at the front of those that are lent, and a table that marks them.
+#[derive(Drop)]
+struct Kept<'a> {
+    table: [u8; MARKS],
+    positions: &'a mut [u16],
+    count: usize,
+    ghost size: { length table ≡ marks_room },
+    ghost within: { count ≤ length positions.now },
+    ghost marked: { Marked table (take count positions.now) },
+}
+
+impl<'a> Kept<'a> {
+    // None is kept yet.
+    fn none(positions: &'a mut [u16]) -> Kept<'a>
+        ensures lent { result.positions.ghost_name ≡ positions.entry.ghost_name }
+        ensures same { result.positions.now ≡ positions.old }
+        ensures none { result.count ≡ 0 }
+    {
+        Kept {
+            table: [0; MARKS],
+            positions,
+            count: 0,
         }
     }
-    count
+
+    // Whether there is room for one more.
+    fn has_room(&self) -> bool
+        ensures { Decides result (self.now.count < length self.now.positions.now) }
+    {
+        self.count < self.positions.len()
+    }
+
+    // Keeps the position of a value, unless the value is too large or the position is marked.
+    fn keep(&mut self, n: u16, value: u16)
+        requires range { (8 ≤ n) × (n ≤ marks_room) }
+        requires room { self.old.count < length self.old.positions.now }
+        ensures lent { self.new.positions.ghost_name ≡ self.old.positions.ghost_name }
+        ensures room { length self.new.positions.now ≡ length self.old.positions.now }
+        ensures kept { take self.new.count self.new.positions.now ≡ kept n (take self.old.count self.old.positions.now) value }
+        ensures more { (self.old.count ≤ self.new.count) × (self.new.count ≤ self.old.count + 1) }
+    {
+        let share = VALUES / n as usize;
+        let value = value as usize;
+        if value < share * n as usize {
+            let position = value / share;
+            if self.table[position] == 0 {
+                self.positions[self.count] = position as u16;
+                self.table[position] = 1;
+                self.count += 1;
+            }
+        }
+    }
 }
 
 /// Expands a seed to the public polynomial: as many coefficients modulo 2^qb as `out` has room for. Nothing is told of
@@ -84,23 +127,12 @@ pub fn expand_public<S: Source>(
     requires range { length out.old ≤ marks_room }
     ensures book { S.book source.new ≡ S.book source.old }
     ensures cases { MatchResult result (λ _. expanded_public qb (length out.old) (S.book source.old public_label seed.now) ≡ Ok out.new) (λ e. expanded_public qb (length out.old) (S.book source.old public_label seed.now) ≡ Err e) }
-    ensures facts { MatchResult result (λ _. Reduced qb (length out.old) out.new) (λ e. Shortfall public_label (length out.old) (S.book source.old public_label seed.now) e) }
+    ensures facts { MatchResult result (λ _. Reduced qb (length out.old) out.new) (λ e. Shortfall Label.Public (length out.old) (S.book source.old public_label seed.now) e) }
 {
-    source.start(PUBLIC_LABEL, seed);
-    for index in 0..out.len() {
-        match next_value(source) {
-            Ok(value) => {
-                out[index] = cut(value, qb);
-            }
-            Err(fault) => {
-                return Err(SamplerFault {
-                    source: fault,
-                    label: PUBLIC_LABEL,
-                    entry: index as u16,
-                    bytes: 2 * index as u64,
-                });
-            }
-        }
+    source.start(Label::Public as u8, seed);
+    for (index, coefficient) in out.iter_mut().enumerate() {
+        let value = next_value(source, Label::Public, index as u16, 2 * index as u64)?;
+        *coefficient = cut(value, qb);
     }
     Ok(())
 }
@@ -117,27 +149,15 @@ pub fn expand_secret<S: Source>(
     requires room { length positions.old ≤ n }
     ensures book { S.book source.new ≡ S.book source.old }
     ensures cases { MatchResult result (λ _. expanded_secret n (length positions.old) (S.book source.old secret_label seed.now) ≡ Ok positions.new) (λ e. expanded_secret n (length positions.old) (S.book source.old secret_label seed.now) ≡ Err e) }
-    ensures facts { MatchResult result (λ _. Picked n (length positions.old) positions.new) (λ e. Shortfall secret_label (length positions.old) (S.book source.old secret_label seed.now) e) }
+    ensures facts { MatchResult result (λ _. Picked n (length positions.old) positions.new) (λ e. Shortfall Label.Secret (length positions.old) (S.book source.old secret_label seed.now) e) }
 {
-    source.start(SECRET_LABEL, seed);
-    let mut table = [0u8; MARKS];
-    let mut count = 0;
+    source.start(Label::Secret as u8, seed);
+    let mut kept = Kept::none(positions);
     let mut bytes = 0;
-    while count < positions.len() {
-        match next_value(source) {
-            Ok(value) => {
-                bytes += 2;
-                count = keep(&mut table, positions, count, n, value);
-            }
-            Err(fault) => {
-                return Err(SamplerFault {
-                    source: fault,
-                    label: SECRET_LABEL,
-                    entry: count as u16,
-                    bytes,
-                });
-            }
-        }
+    while kept.has_room() {
+        let value = next_value(source, Label::Secret, kept.count as u16, bytes)?;
+        bytes += 2;
+        kept.keep(n, value);
     }
     Ok(())
 }
@@ -167,7 +187,7 @@ mod tests {
         let mut positions = [0u16; 2];
         let fault = SamplerFault {
             source: SourceFault::Short,
-            label: SECRET_LABEL,
+            label: Label::Secret,
             entry: 1,
             bytes: 6,
         };

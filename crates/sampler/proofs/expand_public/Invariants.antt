@@ -6,5 +6,7 @@ use Rattle.sampler.proofs.expand_public.Given as goal
 abbrev pub invariant-loop-index : goal.invariant-loop-index
 invariant-loop-index g l =
     let s = g.S.Source in
-    (s.book l.source ≡ s.book l.initial.source)
-    × (residues l.qb (values (s.rest l.initial.source)) ≡ take l.index l.out ++ residues l.qb (values (s.rest l.source)))
+    record {
+      book : s.book l.source ≡ s.book l.initial.source;
+      made : residues l.qb (values (s.rest l.initial.source)) ≡ take l.index l.out ++ residues l.qb (values (s.rest l.source));
+    }
