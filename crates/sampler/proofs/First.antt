@@ -1,9 +1,8 @@
 -- The first entries made, or the fault that tells how many there were.
-use Rattle.std.proofs.Common.{◌≡◌, ℕ, ◌*◌, ◌<◌, ◌≤◌, ltb, List, ◌++◌, length, take, Ok, Err, ap, ap₂, ◌∙◌, arith, length-append}
+use Rattle.std.proofs.Common.{◌≡◌, ℕ, ◌*◌, ◌<◌, ◌≤◌, List, ◌++◌, length, take, Ok, Err, ap, arith, length-append}
 use Rattle.std.proofs.lemmas.List.{take_at}
 use Rattle.std.proofs.lemmas.Grind.{common_steps}
 use Rattle.std.proofs.lemmas.Bool.Decides.{nat_tests}
-use Rattle.std.proofs.lemmas.Bool.{lt-ltb, le-ltb, cond-true, cond-false}
 use Rattle.source.specs.declared.SourceFault.TheVariants.{Short}
 use Rattle.sampler.specs.declared.Label.{Label}
 use Rattle.sampler.specs.declared.SamplerFault.{SamplerFault}
@@ -12,21 +11,13 @@ use Rattle.sampler.specs.Expanded.{first_of}
 use Rattle.sampler.specs.Facts.{Shortfall}
 use Rattle.sampler.proofs.Drawn.{values_span}
 
-long_enough : (label : Label) (count : ℕ) (entries vs : List ℕ) → count ≤ length entries → first_of label count entries vs ≡ Ok (take count entries)
-long_enough label count entries vs l = cond-false (ltb (length entries) count) _ _ (le-ltb (length entries) count l)
-
-too_short : (label : Label) (count : ℕ) (entries vs : List ℕ) → length entries < count → first_of label count entries vs ≡ Err (record { source = Short; label = label; entry = length entries; bytes = 2 * length vs })
-too_short label count entries vs l = cond-true (ltb (length entries) count) _ _ (lt-ltb (length entries) count l)
-
 -- The entries made stand first.
 pub first_made : (label : Label) (count : ℕ) (entries vs made more : List ℕ) → entries ≡ made ++ more → length made ≡ count → first_of label count entries vs ≡ Ok made
-first_made label count entries vs made more e l =
-    let long : count ≤ length entries = omega (arith, simp length-append at (ap length e)) in
-    long_enough label count entries vs long ∙ ap Ok (ap (take count) e ∙ take_at made more count l)
+first_made label count entries vs made more e l = let long = ap length e in grind (arith, common_steps, nat_tests, length-append, take_at)
 
 -- Too few were made.
 pub first_short : (label : Label) (count entry bytes : ℕ) (entries vs : List ℕ) → length entries ≡ entry → 2 * length vs ≡ bytes → entry < count → first_of label count entries vs ≡ Err (record { source = Short; label = label; entry = entry; bytes = bytes })
-first_short label count entry bytes entries vs e b l = too_short label count entries vs (omega arith) ∙ ap₂ (λ x y. Err (record { source = Short; label = label; entry = x; bytes = y })) e b
+first_short label count entry bytes entries vs e b l = grind (arith, common_steps, nat_tests)
 
 -- What was made is long enough, and the answer is its front.
 pub first_front : (label : Label) (count : ℕ) (entries vs out : List ℕ) → first_of label count entries vs ≡ Ok out → (count ≤ length entries) × (take count entries ≡ out)

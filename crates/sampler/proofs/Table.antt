@@ -9,7 +9,7 @@ use Rattle.sampler.specs.Positions.{marks_room, share, has, kept, kept_from, Mar
 
 pub has_push : (p : ℕ) (ps : List ℕ) (x : ℕ) → has p (ps ++ (x ∷ [])) ≡ (has p ps || eqb p x)
 has_push p [] x = grind (arith, nat_tests)
-has_push p (y ∷ ps) x = let e = has_push p ps x in grind (arith, nat_tests)
+has_push p (y ∷ ps) x = grind (arith, nat_tests, has_push p ps x)
 
 -- Some value falls to every position.
 pub share_pos : (n : ℕ) → 0 < n → n ≤ marks_room → 0 < share n
@@ -25,7 +25,7 @@ marked_none p l = get_or-replicate marks_room p 0 0 l
 
 -- What a read of the table tells.
 pub has_at_clear : (table ps : List ℕ) (p : ℕ) → Marked table ps → p < marks_room → get_or table p 0 ≡ 0 → has p ps ≡ false
-has_at_clear table ps p m l z = let e = m p l in grind (arith, nat_tests)
+has_at_clear table ps p m l z = grind (arith, nat_tests, m p l)
 
 -- A position more, and its mark.
 pub marked_push : (table ps : List ℕ) (x : ℕ) → x < length table → Marked table ps → Marked (set table x 1) (ps ++ (x ∷ []))

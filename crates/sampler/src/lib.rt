@@ -61,9 +61,9 @@ fn cut(value: u16, qb: u32) -> u16
     (value as u32 % (1 << qb)) as u16
 }
 
-// The positions kept, at the front of those that are lent, and a table that marks them.
+// The positions chosen, at the front of those that are lent, and a table that marks them.
 #[derive(Drop)]
-struct Kept<'a> {
+struct Chosen<'a> {
     table: [u8; MARKS],
     positions: &'a mut [u16],
     count: usize,
@@ -72,14 +72,14 @@ struct Kept<'a> {
     ghost marked: { Marked table (take count positions.now) },
 }
 
-impl<'a> Kept<'a> {
-    // None is kept yet.
-    fn none(positions: &'a mut [u16]) -> Kept<'a>
+impl<'a> Chosen<'a> {
+    // None is chosen yet.
+    fn none(positions: &'a mut [u16]) -> Chosen<'a>
         ensures lent { result.positions.ghost_name ≡ positions.entry.ghost_name }
         ensures same { result.positions.now ≡ positions.old }
         ensures none { result.count ≡ 0 }
     {
-        Kept {
+        Chosen {
             table: [0; MARKS],
             positions,
             count: 0,
@@ -93,7 +93,7 @@ impl<'a> Kept<'a> {
         self.count < self.positions.len()
     }
 
-    // Keeps the position of a value, unless the value is too large or the position is marked.
+    // Chooses the position of a value, unless the value is too large or the position is marked.
     fn keep(&mut self, n: u16, value: u16)
         requires range { (8 ≤ n) × (n ≤ marks_room) }
         requires room { self.old.count < length self.old.positions.now }
@@ -152,12 +152,12 @@ pub fn expand_secret<S: Source>(
     ensures facts { MatchResult result (λ _. Picked n (length positions.old) positions.new) (λ e. Shortfall Label.Secret (length positions.old) (S.book source.old secret_label seed.now) e) }
 {
     source.start(Label::Secret as u8, seed);
-    let mut kept = Kept::none(positions);
+    let mut chosen = Chosen::none(positions);
     let mut bytes = 0;
-    while kept.has_room() {
-        let value = next_value(source, Label::Secret, kept.count as u16, bytes)?;
+    while chosen.has_room() {
+        let value = next_value(source, Label::Secret, chosen.count as u16, bytes)?;
         bytes += 2;
-        kept.keep(n, value);
+        chosen.keep(n, value);
     }
     Ok(())
 }

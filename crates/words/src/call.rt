@@ -102,7 +102,7 @@ impl fmt::Display for CallRefusal {
                 write!(f, "{told}")
             }
             Refusal::Short(fault) => {
-                let label = fault.label;
+                let label = fault.label as u8;
                 let entry = fault.entry;
                 let bytes = fault.bytes;
                 write!(

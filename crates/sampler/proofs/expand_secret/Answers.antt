@@ -38,12 +38,12 @@ overflow_add-bytes g c =
 
 pub returns-in_err-value : goal.returns-in_err-value
 returns-in_err-value g c =
-    let k = c.loop-kept.kept in
-    let i = c.loop-kept.invariant in
-    let room = ap length c.none-kept.ensures.same in
+    let k = c.loop-chosen.chosen in
+    let i = c.loop-chosen.invariant in
+    let room = ap length c.none-chosen.ensures.same in
     let p = err_from_is_err_and c.from_residual.result c.from_residual.ensures.1 in
     let e = c.in_err-value.ensures in
-    let short = lacks c.args.n (length c.args.positions.now) k.count c.loop-kept.bytes _ k.positions.now _ (omega arith) (omega arith) i.kept i.drawn e.cases.0 in
+    let short = lacks c.args.n (length c.args.positions.now) k.count c.loop-chosen.bytes _ k.positions.now _ (omega arith) (omega arith) i.kept i.drawn e.cases.0 in
     record {
       book = e.book ∙ i.book ∙ c.start.ensures.book;
       cases = rw (p.1, p.2, e.cases.1, ← c.start.ensures.rest) short;
@@ -52,12 +52,12 @@ returns-in_err-value g c =
 
 pub returns : goal.returns
 returns g c =
-    let k = c.loop-kept.kept in
-    let i = c.loop-kept.invariant in
-    let room = ap length c.none-kept.ensures.same in
-    let same = i.lent ∙ c.none-kept.ensures.lent in
+    let k = c.loop-chosen.chosen in
+    let i = c.loop-chosen.invariant in
+    let room = ap length c.none-chosen.ensures.same in
+    let same = i.lent ∙ c.none-chosen.ensures.lent in
     let past : length c.args.positions.now ≤ k.count = grind arith in
-    let full = made c.args.n (length c.args.positions.now) k.count (g.S.Source.rest c.start.new.self) k.positions.now (values (g.S.Source.rest c.loop-kept.source)) (omega arith) past i.kept in
+    let full = made c.args.n (length c.args.positions.now) k.count (g.S.Source.rest c.start.new.self) k.positions.now (values (g.S.Source.rest c.loop-chosen.source)) (omega arith) past i.kept in
     let picked = secret_picked c.args.n (length c.args.positions.now) (g.S.Source.rest c.start.new.self) k.positions.now (omega arith) c.requires.range.1 full in
     record {
       book = i.book ∙ c.start.ensures.book;

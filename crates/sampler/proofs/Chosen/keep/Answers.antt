@@ -3,7 +3,7 @@ use Rattle.std.proofs.Common.{◌≡◌, ℕ, ◌+◌, ◌/◌, List, [], ◌∷
 use Rattle.std.proofs.lemmas.List.{take_more_set}
 use Rattle.sampler.specs.Positions.{share, Marked}
 use Rattle.sampler.proofs.Table.{position_below, marked_push}
-use Rattle.sampler.proofs.Kept.keep.Goals as goal
+use Rattle.sampler.proofs.Chosen.keep.Goals as goal
 
 pub invariant_of-self : goal.invariant_of-self
 invariant_of-self c =
