@@ -13,10 +13,8 @@ fn spaced(heap: Global, numbers: &[u16]) -> Result<String, AllocError>
     ensures { IfOk result (λ s. string_bytes s ≡ spaced numbers.now) }
 {
     let mut text = String::new(heap);
-    for i in 0..numbers.len() {
-        let x = numbers[i];
-        let piece = format!(in heap; " {x}")?;
-        text.push_str(piece.as_str())?;
+    for x in numbers {
+        write!(text, " {x}")?;
     }
     Ok(text)
 }

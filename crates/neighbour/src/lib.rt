@@ -54,14 +54,8 @@ fn better(best: Option<Set>, other: Set) -> Option<Set>
     if !other.below_line() {
         return best;
     }
-    let Some(held) = best else {
-        return Some(other);
-    };
-    if cost_of(&held) <= cost_of(&other) {
-        Some(held)
-    } else {
-        Some(other)
-    }
+    best.filter(|held| cost_of(held) <= cost_of(&other))
+        .or(Some(other))
 }
 
 // The best so far and all sets of one pb.

@@ -2,5 +2,5 @@ use Rattle.std.proofs.Common.{◌≡◌, ◌++◌, drop, string_bytes}
 use Rattle.card.specs.Line.{spaced}
 use Rattle.card.proofs.spaced.Given as goal
 
-abbrev pub invariant-loop-i : goal.invariant-loop-i
-invariant-loop-i l = string_bytes l.text ++ spaced (drop l.i l.numbers) ≡ spaced l.numbers
+abbrev pub invariant-loop-x : goal.invariant-loop-x
+invariant-loop-x l = string_bytes l.text ++ spaced (drop l.x-index l.numbers) ≡ spaced l.numbers
