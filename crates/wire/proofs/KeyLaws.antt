@@ -74,7 +74,7 @@ unfolding key_b
 key_b_below s key = fields_below 0 s.n s.moduli.pb (drop 32 (drop 1 key))
 
 -- what is read writes back to the same bytes
-key_again : (s : Set) (key : List ℕ) → Below 256 key → length key ≡ key_length s → key_content s key ≡ Ok tt → key_bytes s (key_seed key) (key_b s key) ≡ key
+key_again : (s : Set) (key : List ℕ) → Below 256 (drop 1 key) → length key ≡ key_length s → key_content s key ≡ Ok tt → key_bytes s (key_seed key) (key_b s key) ≡ key
 unfolding key_bytes key_seed key_b
 key_again s key hb l h =
     let v : ℕ = s.moduli.pb in
@@ -84,12 +84,12 @@ key_again s key hb l h =
     let parts = content_parts s key h in
     let lr : length rest ≡ length key - 1 = length-drop 1 key in
     let lb : length run ≡ length rest - 32 = length-drop 32 rest in
-    let below : Below 256 run = All-drop (λ x. x < 256) 32 rest (All-drop (λ x. x < 256) 1 key hb) in
+    let below : Below 256 run = All-drop (λ x. x < 256) 32 rest hb in
     let again : packed v (fields_at 0 s.n v run) w [] ≡ run = alone_again s.n v w run below (omega arith) parts.1 in
     ap (λ r. 75 ∷ (take 32 rest ++ r)) again ∙ ap (λ r. 75 ∷ r) (take-append-drop 32 rest) ∙ sym parts.0
 
 -- .. where its parts have been read
-pub key_read : (s : Set) (key σ b : List ℕ) → Below 256 key → length key ≡ key_length s → key_content s key ≡ Ok tt → σ ≡ key_seed key → b ≡ key_b s key → key_bytes s σ b ≡ key
+pub key_read : (s : Set) (key σ b : List ℕ) → Below 256 (drop 1 key) → length key ≡ key_length s → key_content s key ≡ Ok tt → σ ≡ key_seed key → b ≡ key_b s key → key_bytes s σ b ≡ key
 key_read s key σ b hb l h eσ eb = ap (λ x. key_bytes s x b) eσ ∙ ap (key_bytes s (key_seed key)) eb ∙ key_again s key hb l h
 
 pub key_trips : (s : Set) → KeyTrips s
@@ -98,5 +98,5 @@ key_trips s = record {
   seed = key_seed_written s;
   fields = key_b_written s;
   below = key_b_below s;
-  again = λ key hb h. let a = key_form_parts s key h in key_again s key hb a.0 a.1;
+  again = λ key hb h. let a = key_form_parts s key h in key_again s key (All-drop (λ x. x < 256) 1 key hb) a.0 a.1;
 }

@@ -100,7 +100,7 @@ unfolding parcel_u parcel_v
 parcel_below s parcel = let run : List ℕ = run_of (drop 1 parcel) in (fields_below 0 s.n s.moduli.pb run, fields_below (s.n * s.moduli.pb) s.code.mu s.moduli.tb run)
 
 -- what is read writes back to the same bytes
-parcel_again : (s : Set) (parcel : List ℕ) → Below 256 parcel → length parcel ≡ parcel_length s → parcel_content s parcel ≡ Ok tt → parcel_bytes s (parcel_u s parcel) (parcel_v s parcel) (parcel_tag parcel) ≡ parcel
+parcel_again : (s : Set) (parcel : List ℕ) → Below 256 (drop 1 parcel) → length parcel ≡ parcel_length s → parcel_content s parcel ≡ Ok tt → parcel_bytes s (parcel_u s parcel) (parcel_v s parcel) (parcel_tag parcel) ≡ parcel
 unfolding parcel_bytes parcel_u parcel_v parcel_tag
 parcel_again s parcel hb l h =
     let a : ℕ = s.moduli.pb in
@@ -111,12 +111,12 @@ parcel_again s parcel hb l h =
     let parts = content_parts s parcel h in
     let lr : length rest ≡ length parcel - 1 = length-drop 1 parcel in
     let lb : length run ≡ length rest - 32 = length-take-le (length rest - 32) rest (omega arith) in
-    let below : Below 256 run = All-take (λ x. x < 256) (length rest - 32) rest (All-drop (λ x. x < 256) 1 parcel hb) in
+    let below : Below 256 run = All-take (λ x. x < 256) (length rest - 32) rest hb in
     let again : packed a (fields_at 0 s.n a run) w (fields_at (s.n * a) s.code.mu w run) ≡ run = packed_again s.n a s.code.mu w run below (omega arith) parts.1 in
     ap (λ r. 80 ∷ (r ++ g)) again ∙ ap (λ r. 80 ∷ r) (take-append-drop (length rest - 32) rest) ∙ sym parts.0
 
 -- .. where its parts have been read
-pub parcel_read : (s : Set) (parcel u v g : List ℕ) → Below 256 parcel → length parcel ≡ parcel_length s → parcel_content s parcel ≡ Ok tt → u ≡ parcel_u s parcel → v ≡ parcel_v s parcel → g ≡ parcel_tag parcel → parcel_bytes s u v g ≡ parcel
+pub parcel_read : (s : Set) (parcel u v g : List ℕ) → Below 256 (drop 1 parcel) → length parcel ≡ parcel_length s → parcel_content s parcel ≡ Ok tt → u ≡ parcel_u s parcel → v ≡ parcel_v s parcel → g ≡ parcel_tag parcel → parcel_bytes s u v g ≡ parcel
 parcel_read s parcel u v g hb l h eu ev eg =
     ap (λ x. parcel_bytes s x v g) eu
     ∙ ap (λ x. parcel_bytes s (parcel_u s parcel) x g) ev
@@ -130,5 +130,5 @@ parcel_trips s = record {
   second = parcel_v_written s;
   tag = parcel_tag_written s;
   below = parcel_below s;
-  again = λ parcel hb h. let a = parcel_form_parts s parcel h in parcel_again s parcel hb a.0 a.1;
+  again = λ parcel hb h. let a = parcel_form_parts s parcel h in parcel_again s parcel (All-drop (λ x. x < 256) 1 parcel hb) a.0 a.1;
 }

@@ -1,7 +1,8 @@
 // Keys: written, checked and read.
-ghost use Rattle.std.specs.Prelude.{◌≡◌, ◌+◌, length, take, drop, Ok};
+ghost use Rattle.std.specs.Prelude.{◌≡◌, ◌+◌, length, take, drop, Ok, Err, MatchResult};
 ghost use Rattle.params.specs.Sizes.{key_length};
 ghost use Rattle.ring.specs.Lists.{words_p};
+ghost use Rattle.pack.specs.Bits.{Below};
 ghost use Rattle.pack.specs.Packing.{fields_at};
 ghost use Rattle.wire.specs.Keys.{key_bytes, key_seed, key_b, key_rest, key_content, key_form};
 
@@ -58,23 +59,44 @@ fn read_key_rest(set: &Set, rest: &[u8], seed: &mut [u8; 32], b: &mut [Rounded])
     requires room { length b.old ≡ set.now.n }
     ensures seed { seed.new ≡ take 32 rest.now }
     ensures fields { words_p b.new ≡ fields_at 0 set.now.n set.now.moduli.pb (drop 32 rest.now) }
+    ensures bytes { Below 256 rest.now }
 {
     let mut none: [Symbol; 0] = [];
     seed.copy_from_slice(&rest[0..32]);
     fields(set.moduli, &rest[32..], b, &mut none);
 }
 
-// Reads the parts of a key. Every call has checked the key, and lends n coefficients.
-pub fn read_key(set: &Set, key: &[u8], seed: &mut [u8; 32], b: &mut [Rounded])
-    requires long { length key.now ≡ key_length set.now }
-    requires content { key_content set.now key.now ≡ Ok tt }
-    requires room { length b.old ≡ set.now.n }
-    ensures seed { seed.new ≡ key_seed key.now }
-    ensures fields { words_p b.new ≡ key_b set.now key.now }
-    ensures again { key_bytes set.now seed.new (words_p b.new) ≡ key.now }
-{
-    match key {
-        [0x4B, rest @ ..] => read_key_rest(set, rest, seed, b),
-        _ => unreachable(),
+// Bytes that are a key of a set. Whoever holds one need not test them again.
+#[derive(Clone, Copy)]
+pub struct Key<'a> {
+    pub set: &'a Set,
+    pub bytes: &'a [u8],
+    pub ghost long: { length bytes.now ≡ key_length set.now },
+    pub ghost content: { key_content set.now bytes.now ≡ Ok tt },
+}
+
+impl<'a> Key<'a> {
+    // The key that bytes are, or why they are none. Every call has tested the length.
+    pub fn check(set: &'a Set, bytes: &'a [u8]) -> Result<Key<'a>, WireFault>
+        requires { length bytes.now ≡ key_length set.now }
+        ensures { MatchResult result
+            (λ key. (key.set.now ≡ set.now) × (key.bytes.now ≡ bytes.now) × (key_content set.now bytes.now ≡ Ok tt))
+            (λ e. key_content set.now bytes.now ≡ Err e) }
+    {
+        check_key_content(set, bytes)?;
+        Ok(Key { set, bytes })
+    }
+
+    // Reads the parts of the key. Every call lends n coefficients.
+    pub fn read(&self, seed: &mut [u8; 32], b: &mut [Rounded])
+        requires { length b.old ≡ self.now.set.now.n }
+        ensures seed { seed.new ≡ key_seed self.now.bytes.now }
+        ensures fields { words_p b.new ≡ key_b self.now.set.now self.now.bytes.now }
+        ensures again { key_bytes self.now.set.now seed.new (words_p b.new) ≡ self.now.bytes.now }
+    {
+        match self.bytes {
+            [0x4B, rest @ ..] => read_key_rest(self.set, rest, seed, b),
+            _ => unreachable(),
+        }
     }
 }

@@ -1,7 +1,8 @@
 // Parcels: written, checked and read.
-ghost use Rattle.std.specs.Prelude.{◌≡◌, ◌+◌, ◌-◌, ◌*◌, length, drop, Ok};
+ghost use Rattle.std.specs.Prelude.{◌≡◌, ◌+◌, ◌-◌, ◌*◌, length, drop, Ok, Err, MatchResult};
 ghost use Rattle.params.specs.Sizes.{parcel_length};
 ghost use Rattle.ring.specs.Lists.{words_p, words_t};
+ghost use Rattle.pack.specs.Bits.{Below};
 ghost use Rattle.pack.specs.Packing.{fields_at};
 ghost use Rattle.wire.specs.Parcels.{parcel_bytes, parcel_u, parcel_v, parcel_tag, run_of, parcel_rest, parcel_content, parcel_form};
 
@@ -66,31 +67,46 @@ fn read_parcel_rest(set: &Set, rest: &[u8], u: &mut [Rounded], v: &mut [Symbol],
     ensures first { words_p u.new ≡ fields_at 0 set.now.n set.now.moduli.pb (run_of rest.now) }
     ensures second { words_t v.new ≡ fields_at (set.now.n * set.now.moduli.pb) set.now.code.mu set.now.moduli.tb (run_of rest.now) }
     ensures tag { tag.new ≡ drop (length rest.now - 32) rest.now }
+    ensures bytes { Below 256 rest.now }
 {
     let end = rest.len() - 32;
     fields(set.moduli, &rest[0..end], u, v);
     tag.copy_from_slice(&rest[end..]);
 }
 
-// Reads the parts of a parcel. Every call has checked the parcel, and lends n coefficients and μ symbols.
-pub fn read_parcel(
-    set: &Set,
-    parcel: &[u8],
-    u: &mut [Rounded],
-    v: &mut [Symbol],
-    tag: &mut [u8; 32],
-)
-    requires long { length parcel.now ≡ parcel_length set.now }
-    requires content { parcel_content set.now parcel.now ≡ Ok tt }
-    requires first { length u.old ≡ set.now.n }
-    requires second { length v.old ≡ set.now.code.mu }
-    ensures first { words_p u.new ≡ parcel_u set.now parcel.now }
-    ensures second { words_t v.new ≡ parcel_v set.now parcel.now }
-    ensures tag { tag.new ≡ parcel_tag parcel.now }
-    ensures again { parcel_bytes set.now (words_p u.new) (words_t v.new) tag.new ≡ parcel.now }
-{
-    match parcel {
-        [0x50, rest @ ..] => read_parcel_rest(set, rest, u, v, tag),
-        _ => unreachable(),
+// Bytes that are a parcel of a set. Whoever holds one need not test them again.
+#[derive(Clone, Copy)]
+pub struct Parcel<'a> {
+    pub set: &'a Set,
+    pub bytes: &'a [u8],
+    pub ghost long: { length bytes.now ≡ parcel_length set.now },
+    pub ghost content: { parcel_content set.now bytes.now ≡ Ok tt },
+}
+
+impl<'a> Parcel<'a> {
+    // The parcel that bytes are, or why they are none. Every call has tested the length.
+    pub fn check(set: &'a Set, bytes: &'a [u8]) -> Result<Parcel<'a>, WireFault>
+        requires { length bytes.now ≡ parcel_length set.now }
+        ensures { MatchResult result
+            (λ parcel. (parcel.set.now ≡ set.now) × (parcel.bytes.now ≡ bytes.now) × (parcel_content set.now bytes.now ≡ Ok tt))
+            (λ e. parcel_content set.now bytes.now ≡ Err e) }
+    {
+        check_parcel_content(set, bytes)?;
+        Ok(Parcel { set, bytes })
+    }
+
+    // Reads the parts of the parcel. Every call lends n coefficients and μ symbols.
+    pub fn read(&self, u: &mut [Rounded], v: &mut [Symbol], tag: &mut [u8; 32])
+        requires first { length u.old ≡ self.now.set.now.n }
+        requires second { length v.old ≡ self.now.set.now.code.mu }
+        ensures first { words_p u.new ≡ parcel_u self.now.set.now self.now.bytes.now }
+        ensures second { words_t v.new ≡ parcel_v self.now.set.now self.now.bytes.now }
+        ensures tag { tag.new ≡ parcel_tag self.now.bytes.now }
+        ensures again { parcel_bytes self.now.set.now (words_p u.new) (words_t v.new) tag.new ≡ self.now.bytes.now }
+    {
+        match self.bytes {
+            [0x50, rest @ ..] => read_parcel_rest(self.set, rest, u, v, tag),
+            _ => unreachable(),
+        }
     }
 }

@@ -1,4 +1,5 @@
-use Rattle.std.proofs.Common.{ℕ, map, length, drop, refl, ap, ◌∙◌, arith}
+use Rattle.std.proofs.Common.{ℕ, ◌<◌, map, length, drop, refl, ap, ◌∙◌, arith}
+use Rattle.std.proofs.ByRecursion.{All-from_get_or}
 use Rattle.std.proofs.lemmas.Slice.{between_to_end}
 use Rattle.ring.specs.declared.sorts.Rounded.{Rounded}
 use Rattle.pack.specs.Packing.{fields_at}
@@ -14,4 +15,5 @@ returns c =
       fields =
           words_of (λ (x : Rounded). x.0) (λ x. record { 0 = x }) (λ x. refl) _ _ c.fields.new.xs (λ n. fields_at 0 n v (drop 32 rest)) c.requires.room
           (c.fields.ensures.first ∙ ap (λ r. map (λ (x : ℕ). record { 0 = x }) (fields_at 0 (length c.args.b.now) v r)) (between_to_end rest 32 (length rest) (omega arith)));
+      bytes = All-from_get_or (λ x. x < 256) rest 0 (λ i h. omega (arith, c.type_inv.rest i));
     }

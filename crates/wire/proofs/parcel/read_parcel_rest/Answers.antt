@@ -1,4 +1,5 @@
-use Rattle.std.proofs.Common.{◌≡◌, ℕ, ◌-◌, ◌*◌, map, length, take, refl, ap, ◌∙◌, arith}
+use Rattle.std.proofs.Common.{◌≡◌, ℕ, ◌<◌, ◌-◌, ◌*◌, map, length, take, refl, ap, ◌∙◌, arith}
+use Rattle.std.proofs.ByRecursion.{All-from_get_or}
 use Rattle.std.proofs.lemmas.Slice.{between_to_end}
 use Rattle.ring.specs.declared.sorts.Rounded.{Rounded}
 use Rattle.ring.specs.declared.sorts.Symbol.{Symbol}
@@ -23,4 +24,5 @@ returns c =
           (c.fields.ensures.second ∙ ap (λ e. map (λ (x : ℕ). record { 0 = x }) (fields_at (length c.args.u.now * s.moduli.pb) m s.moduli.tb (take e rest))) end)
           ∙ ap (λ k. fields_at (s.n * s.moduli.pb) k s.moduli.tb run) c.requires.second;
       tag = c.copy_from_slice.ensures.after ∙ between_to_end rest (length rest - 32) (length rest) (omega arith);
+      bytes = All-from_get_or (λ x. x < 256) rest 0 (λ i h. omega (arith, c.type_inv.rest i));
     }
