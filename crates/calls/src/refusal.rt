@@ -5,24 +5,24 @@ ghost use Rattle.calls.specs.declared.refusal.Refusal.TheVariants.{Form, Short};
 use sampler::SamplerFault;
 use wire::WireFault;
 
-/// A buffer that is lent to a call: what it writes, the station's secret, and the two working areas.
-#[derive(Clone, Copy)]
+/// A buffer that is lent to a call: what it writes, the station's secret, and the two working areas. Each has its number.
+#[derive(Clone, Copy, Debug, PartialEq, Eq)]
 pub enum Buffer {
-    Output,
+    Output = 1,
     SecretOutput,
     SecretArea,
     ProductArea,
 }
 
-/// An input of a call: a key, a parcel, or seeds of 96 bytes; and a message or a single seed.
-#[derive(Clone, Copy)]
+/// An input of a call: a key, a parcel, or seeds of 96 bytes; and a message or a single seed. Each has its number.
+#[derive(Clone, Copy, Debug, PartialEq, Eq)]
 pub enum Input {
-    First,
+    First = 1,
     Second,
 }
 
 /// Why a call says no. The faults of the layers below stand whole in `Form` and `Short`.
-#[derive(Clone, Copy)]
+#[derive(Clone, Copy, Debug, PartialEq, Eq)]
 pub enum Refusal {
     // the place is above 3
     NoSuchPlace(u8),

@@ -17,7 +17,7 @@ pub(crate) fn tell(outcome: Result<(), Refusal>, refusal: &mut [u64; 4]) -> u32
             0
         }
         Err(why) => {
-            let words = why.numbers().values;
+            let words = why.numbers().words();
             *refusal = words;
             words[0] as u32
         }
