@@ -1,7 +1,5 @@
 // Raw read.
 ghost use Rattle.std.specs.Prelude.{◌≡◌, ◌+◌, length, Ok, Err, MatchResult};
-ghost use Rattle.params.specs.Sizes.{parcel_length};
-ghost use Rattle.wire.specs.Parcels.{parcel_content};
 ghost use Rattle.calls.specs.Areas.{zeros};
 ghost use Rattle.calls.specs.Chains.{Answers};
 ghost use Rattle.lab.specs.Lab.{read_checks, reading, raw_read};
@@ -9,20 +7,22 @@ ghost use Rattle.lab.specs.Lab.{read_checks, reading, raw_read};
 use calls::{Buffer, Input, Refusal, Wiped, expect, expect_areas};
 use params::set::Set;
 use sampler::SamplerFault;
-use scheme::{expand_positions, read_parcel_bits};
+use scheme::{Secret, expand_positions};
 use source::Source;
-use wire::check_parcel_content;
+use wire::Parcel;
 
-// Everything that is tested before any work, in the order of the refusals.
-fn check_read(
-    set: &Set,
+// Everything that is tested before any work, in the order of the refusals: answers the parcel that the bytes are.
+fn check_read<'a>(
+    set: &'a Set,
     raw: usize,
     secret_words: usize,
     product_words: usize,
-    parcel: &[u8],
+    parcel: &'a [u8],
     seed: &[u8],
-) -> Result<(), Refusal>
-    ensures { result ≡ read_checks set.now raw secret_words product_words parcel.now seed.now }
+) -> Result<Parcel<'a>, Refusal>
+    ensures { MatchResult result
+        (λ p. (p.set.now ≡ set.now) × (p.bytes.now ≡ parcel.now) × (read_checks set.now raw secret_words product_words parcel.now seed.now ≡ Ok tt))
+        (λ e. read_checks set.now raw secret_words product_words parcel.now seed.now ≡ Err e) }
 {
     expect(
         raw,
@@ -40,32 +40,33 @@ fn check_read(
         32,
         Refusal::WrongInput(Input::Second, seed.len()),
     )?;
-    check_parcel_content(set, parcel)?;
-    Ok(())
+    Ok(Parcel::check(set, parcel)?)
 }
 
 // With the parts of the working areas that the set takes.
 fn read_in<S: Source>(
-    set: &Set,
     source: &mut S,
-    parcel: &[u8],
+    parcel: &Parcel<'_>,
     seed: &[u8; 32],
     raw: &mut [u8],
     secret: &mut [u16],
     product: &mut [u16],
 ) -> Result<(), SamplerFault>
-    requires long { length parcel.now ≡ parcel_length set.now }
-    requires content { parcel_content set.now parcel.now ≡ Ok tt }
-    requires out { length raw.old ≡ set.now.code.mu }
-    requires secret { length secret.old ≡ set.now.h }
-    requires product { length product.old ≡ set.now.n + 1 }
+    requires out { length raw.old ≡ parcel.now.set.now.code.mu }
+    requires secret { length secret.old ≡ parcel.now.set.now.h }
+    requires product { length product.old ≡ parcel.now.set.now.n + 1 }
     ensures book { S.book source.new ≡ S.book source.old }
     ensures cases { MatchResult result
-        (λ _. reading (S.book source.old) set.now seed.now parcel.now ≡ Ok raw.new)
-        (λ e. (reading (S.book source.old) set.now seed.now parcel.now ≡ Err e) × (raw.new ≡ raw.old)) }
+        (λ _. reading (S.book source.old) parcel.now.set.now seed.now parcel.now.bytes.now ≡ Ok raw.new)
+        (λ e. (reading (S.book source.old) parcel.now.set.now seed.now parcel.now.bytes.now ≡ Err e) × (raw.new ≡ raw.old)) }
 {
+    let set = parcel.set;
     expand_positions(set, source, seed, secret)?;
-    read_parcel_bits(set, parcel, secret, product, raw);
+    let secret = Secret {
+        set,
+        positions: secret,
+    };
+    secret.read_parcel_bits(parcel, product, raw);
     Ok(())
 }
 
@@ -94,13 +95,12 @@ fn read_within<S: Source>(
         (raw_read (S.book source.old) set.now (length raw.old) (length secret.old) (length product.old) parcel.now seed.now)
         raw.new raw.old }
 {
-    check_read(set, raw.len(), secret.len(), product.len(), parcel, seed)?;
+    let parcel = check_read(set, raw.len(), secret.len(), product.len(), parcel, seed)?;
     let h = set.h as usize;
     let words = set.n as usize + 1;
     read_in(
-        set,
         source,
-        parcel,
+        &parcel,
         &seed_from(seed),
         raw,
         &mut secret[0..h],

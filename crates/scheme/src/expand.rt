@@ -14,8 +14,8 @@ fn coefficients(words: &[u16], out: &mut [Coefficient])
     requires { length out.old ≡ length words.now }
     ensures { words_q out.new ≡ words.now }
 {
-    for i in 0..words.len() {
-        out[i] = Coefficient(words[i]);
+    for (i, x) in out.iter_mut().enumerate() {
+        *x = Coefficient(words[i]);
     }
 }
 

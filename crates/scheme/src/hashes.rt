@@ -3,6 +3,7 @@ ghost use Rattle.std.specs.Prelude.{◌≡◌, ◌∷◌, ◌++◌, length};
 ghost use Rattle.shake.specs.Shake.{shake256};
 ghost use Rattle.scheme.specs.Scheme.{sealing_bytes, secret_from, l_of, tag_of, station_seed};
 
+use calls::thirds;
 use shake::hash;
 
 // The label of the hash of a message and a key.
@@ -39,13 +40,7 @@ pub(crate) fn sealing_of(message: &[u8], key: &[u8]) -> Sealing
     ensures tag { result.tag ≡ tag_of message.now key.now }
     ensures seed { result.seed ≡ station_seed message.now key.now }
 {
-    let bytes = hash_sealing(message, key);
-    let mut l = [0u8; 32];
-    let mut tag = [0u8; 32];
-    let mut seed = [0u8; 32];
-    l.copy_from_slice(&bytes[0..32]);
-    tag.copy_from_slice(&bytes[32..64]);
-    seed.copy_from_slice(&bytes[64..96]);
+    let [l, tag, seed] = thirds(&hash_sealing(message, key));
     Sealing { l, tag, seed }
 }
 

@@ -7,9 +7,9 @@ mod expand;
 mod hashes;
 mod parcels;
 mod products;
+mod secret;
 
-pub use decrypt::{find_message, read_parcel_bits};
 pub use expand::{expand_polynomial, expand_positions};
 pub use hashes::{secret_from, station_seed};
 pub use parcels::encrypt;
-pub use products::round_times;
+pub use secret::Secret;

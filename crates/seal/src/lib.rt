@@ -2,8 +2,7 @@
 #![tactic(auto)]
 
 ghost use Rattle.std.specs.Prelude.{◌≡◌, ◌+◌, ◌/◌, length, Ok, Err, MatchResult};
-ghost use Rattle.params.specs.Sizes.{key_length, parcel_length};
-ghost use Rattle.wire.specs.Keys.{key_content};
+ghost use Rattle.params.specs.Sizes.{parcel_length};
 ghost use Rattle.calls.specs.Areas.{zeros};
 ghost use Rattle.calls.specs.Chains.{Answers};
 ghost use Rattle.seal.specs.Seal.{both, seal_checks, sealing, sealed};
@@ -15,21 +14,23 @@ use ring::{Coefficient, Rounded};
 use sampler::SamplerFault;
 use scheme::{encrypt, expand_polynomial, secret_from};
 use source::Source;
-use wire::{check_key_content, read_key};
+use wire::Key;
 
 const MOST: usize = MOST_N as usize;
 
-// Everything that is tested before any work, in the order of the refusals.
-fn check_seal(
-    set: &Set,
+// Everything that is tested before any work, in the order of the refusals: answers the key that the bytes are.
+fn check_seal<'a>(
+    set: &'a Set,
     parcel: usize,
     secret: usize,
     secret_words: usize,
     product_words: usize,
-    key: &[u8],
+    key: &'a [u8],
     message: &[u8],
-) -> Result<(), Refusal>
-    ensures { result ≡ seal_checks set.now parcel secret secret_words product_words key.now message.now }
+) -> Result<Key<'a>, Refusal>
+    ensures { MatchResult result
+        (λ k. (k.set.now ≡ set.now) × (k.bytes.now ≡ key.now) × (seal_checks set.now parcel secret secret_words product_words key.now message.now ≡ Ok tt))
+        (λ e. seal_checks set.now parcel secret secret_words product_words key.now message.now ≡ Err e) }
 {
     expect(
         parcel,
@@ -48,83 +49,43 @@ fn check_seal(
         set.code.shape.kappa as usize / 8,
         Refusal::WrongInput(Input::Second, message.len()),
     )?;
-    check_key_content(set, key)?;
-    Ok(())
-}
-
-// With room for the key's polynomials: h words of the secret area, n + 1 of the product area.
-fn seal_with<S: Source>(
-    set: &Set,
-    source: &mut S,
-    key: &[u8],
-    message: &[u8],
-    parcel: &mut [u8],
-    secret_out: &mut [u8],
-    secret: &mut [u16],
-    product: &mut [u16],
-    a: &mut [Coefficient],
-    b: &mut [Rounded],
-) -> Result<(), SamplerFault>
-    requires long { length key.now ≡ key_length set.now }
-    requires content { key_content set.now key.now ≡ Ok tt }
-    requires message { length message.now ≡ set.now.code.shape.kappa / 8 }
-    requires parcel { length parcel.old ≡ parcel_length set.now }
-    requires out { length secret_out.old ≡ 32 }
-    requires secret { length secret.old ≡ set.now.h }
-    requires product { length product.old ≡ set.now.n + 1 }
-    requires a { length a.old ≡ set.now.n }
-    requires b { length b.old ≡ set.now.n }
-    ensures book { S.book source.new ≡ S.book source.old }
-    ensures cases { MatchResult result
-        (λ _. sealing (S.book source.old) set.now key.now message.now ≡ Ok (both parcel.new secret_out.new))
-        (λ e. (sealing (S.book source.old) set.now key.now message.now ≡ Err e) × (parcel.new ≡ parcel.old) × (secret_out.new ≡ secret_out.old)) }
-{
-    let mut seed = [0u8; 32];
-    read_key(set, key, &mut seed, b);
-    expand_polynomial(set, source, &seed, product, a)?;
-    let l = encrypt(set, source, a, b, key, message, parcel, secret, product)?;
-    secret_from(&l, parcel, secret_out);
-    Ok(())
+    Ok(Key::check(set, key)?)
 }
 
 // With the parts of the working areas that the set takes.
 fn seal_in<S: Source>(
-    set: &Set,
     source: &mut S,
-    key: &[u8],
+    key: &Key<'_>,
     message: &[u8],
     parcel: &mut [u8],
     secret_out: &mut [u8],
     secret: &mut [u16],
     product: &mut [u16],
 ) -> Result<(), SamplerFault>
-    requires long { length key.now ≡ key_length set.now }
-    requires content { key_content set.now key.now ≡ Ok tt }
-    requires message { length message.now ≡ set.now.code.shape.kappa / 8 }
-    requires parcel { length parcel.old ≡ parcel_length set.now }
+    requires message { length message.now ≡ key.now.set.now.code.shape.kappa / 8 }
+    requires parcel { length parcel.old ≡ parcel_length key.now.set.now }
     requires out { length secret_out.old ≡ 32 }
-    requires secret { length secret.old ≡ set.now.h }
-    requires product { length product.old ≡ set.now.n + 1 }
+    requires secret { length secret.old ≡ key.now.set.now.h }
+    requires product { length product.old ≡ key.now.set.now.n + 1 }
     ensures book { S.book source.new ≡ S.book source.old }
     ensures cases { MatchResult result
-        (λ _. sealing (S.book source.old) set.now key.now message.now ≡ Ok (both parcel.new secret_out.new))
-        (λ e. (sealing (S.book source.old) set.now key.now message.now ≡ Err e) × (parcel.new ≡ parcel.old) × (secret_out.new ≡ secret_out.old)) }
+        (λ _. sealing (S.book source.old) key.now.set.now key.now.bytes.now message.now ≡ Ok (both parcel.new secret_out.new))
+        (λ e. (sealing (S.book source.old) key.now.set.now key.now.bytes.now message.now ≡ Err e) × (parcel.new ≡ parcel.old) × (secret_out.new ≡ secret_out.old)) }
 {
+    let set = key.set;
     let n = set.n as usize;
+    let mut seed = [0u8; 32];
     let mut a = [Coefficient(0); MOST];
     let mut b = [Rounded(0); MOST];
-    seal_with(
-        set,
-        source,
-        key,
-        message,
-        parcel,
-        secret_out,
-        secret,
-        product,
-        &mut a[0..n],
-        &mut b[0..n],
-    )
+    let a = &mut a[0..n];
+    let b = &mut b[0..n];
+    key.read(&mut seed, b);
+    expand_polynomial(set, source, &seed, product, a)?;
+    let l = encrypt(
+        set, source, a, b, key.bytes, message, parcel, secret, product,
+    )?;
+    secret_from(&l, parcel, secret_out);
+    Ok(())
 }
 
 // The call without its guards.
@@ -143,7 +104,7 @@ fn seal_within<S: Source>(
         (sealed (S.book source.old) set.now (length parcel.old) (length secret_out.old) (length secret.old) (length product.old) key.now message.now)
         (both parcel.new secret_out.new) (both parcel.old secret_out.old) }
 {
-    check_seal(
+    let key = check_seal(
         set,
         parcel.len(),
         secret_out.len(),
@@ -155,9 +116,8 @@ fn seal_within<S: Source>(
     let h = set.h as usize;
     let words = set.n as usize + 1;
     seal_in(
-        set,
         source,
-        key,
+        &key,
         message,
         parcel,
         secret_out,
