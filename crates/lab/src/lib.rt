@@ -7,5 +7,5 @@ mod mend;
 mod read;
 
 pub use gauging::gauge;
-pub use mend::correct_raw;
+pub use mend::{RawFault, correct_raw};
 pub use read::raw_read;

@@ -13,7 +13,7 @@ use params::MOST_N;
 use params::set::Set;
 use ring::{Coefficient, Rounded};
 use sampler::SamplerFault;
-use scheme::{expand_polynomial, expand_positions, round_times};
+use scheme::{Secret, expand_polynomial, expand_positions};
 use source::Source;
 use wire::write_key;
 
@@ -37,7 +37,11 @@ fn write_from(
     ensures rounded { words_p b.new ≡ rounded_product set.now.moduli set.now.n (words_q a.now) secret.now }
     ensures key { key.new ≡ key_from set.now sigma.now (words_q a.now) secret.now }
 {
-    round_times(set, a, secret, product, b);
+    let secret = Secret {
+        set,
+        positions: secret,
+    };
+    secret.round_times(a, product, b);
     write_key(set, sigma, b, key);
 }
 

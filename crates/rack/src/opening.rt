@@ -14,9 +14,9 @@ use params::MOST_N;
 use params::set::Set;
 use ring::{Coefficient, Rounded};
 use sampler::SamplerFault;
-use scheme::{encrypt, find_message, secret_from};
+use scheme::{Secret, encrypt, secret_from};
 use source::Source;
-use wire::check_parcel_content;
+use wire::{Parcel, check_parcel_content};
 
 const MOST: usize = MOST_N as usize;
 
@@ -123,7 +123,12 @@ fn open_with<S: Source>(
         (λ e. (opening (S.book source.old) set.now coins.now parcel.now ≡ Err e) × (out.new ≡ out.old)) }
 {
     remake_key(set, source, coins, key, secret, product, a, b)?;
-    find_message(set, parcel, secret, product, message);
+    let till = Secret {
+        set,
+        positions: secret,
+    };
+    let given = Parcel { set, bytes: parcel };
+    till.find_message(&given, product, message);
     let l = encrypt(set, source, a, b, key, message, again, secret, product)?;
     decide(again, parcel, &l, &coins.z, out);
     Ok(())

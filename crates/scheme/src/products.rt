@@ -46,13 +46,7 @@ impl Secret<'_> {
     }
 
     // The raw bits of symbols, read with the cyclic product of u and the secret.
-    pub(crate) fn read_bits(
-        &self,
-        u: &[Rounded],
-        v: &[Symbol],
-        product: &mut [u16],
-        out: &mut [u8],
-    )
+    pub(crate) fn read_bits(&self, u: &[Rounded], v: &[Symbol], product: &mut [u16], out: &mut [u8])
         requires long { length u.now ≡ self.now.set.now.n }
         requires sent { length v.now ≡ self.now.set.now.code.mu }
         requires room { length product.old ≡ self.now.set.now.n + 1 }

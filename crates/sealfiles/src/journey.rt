@@ -186,8 +186,8 @@ impl Journey {
 
     fn correct(&self, rt: &HostRuntime, raw: &[u8]) -> Result<(), Stop> {
         let mut found = vec![in rt.alloc(); 0u8; self.message.len()]?;
-        let taken = correct_raw(&self.set, raw, found.as_mut_slice());
-        let words = if taken && found == self.message {
+        let outcome = correct_raw(&self.set, raw, found.as_mut_slice());
+        let words = if outcome.is_ok() && found == self.message {
             "is the message that was sealed"
         } else {
             "is another message than the one sealed"
