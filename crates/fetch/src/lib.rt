@@ -1,8 +1,7 @@
 // The fetch layer: a source over another that fetches bytes ahead, so that small draws seldom reach the source below.
 #![tactic(auto)]
 
-ghost use Rattle.std.specs.Prelude.{◌≡◌, ◌≤◌, ◌++◌, length};
-ghost use Rattle.fetch.specs.Held.{held};
+ghost use Rattle.std.specs.Prelude.{◌≡◌, ◌≤◌, ◌++◌, length, drop};
 
 use source::{Source, SourceFault};
 
@@ -13,50 +12,43 @@ pub const FETCH_BYTES: usize = 64;
 #[derive(Drop)]
 pub struct Fetch<S> {
     source: S,
+    // Kept: a layer has no heap, so what it holds stands in a fixed buffer.
     bytes: [u8; FETCH_BYTES],
-    // the bytes held stand from here ..
+    // the bytes held stand from here to the buffer's end
     from: usize,
-    // .. up to here
-    upto: usize,
-    ghost within: { (from ≤ upto) × (upto ≤ length bytes) },
+    ghost within: { from ≤ length bytes },
 }
 
 impl<S: Source> Fetch<S> {
     /// A layer over this source that holds nothing yet: book and bytes to come are those of the source.
     pub fn new(source: S) -> Fetch<S>
         ensures under { result.source ≡ source }
-        ensures rest { held result.from result.upto result.bytes ++ S.rest result.source ≡ S.rest source }
+        ensures rest { drop result.from result.bytes ++ S.rest result.source ≡ S.rest source }
     {
         Fetch {
             source,
             bytes: [0; FETCH_BYTES],
-            from: 0,
-            upto: 0,
+            from: FETCH_BYTES,
         }
     }
 
     // Lets go of what is held and fetches ahead what the source has, up to the layer's room.
     fn fetch_ahead(&mut self)
         ensures book { S.book self.new.source ≡ S.book self.old.source }
-        ensures rest { held self.new.from self.new.upto self.new.bytes ++ S.rest self.new.source ≡ S.rest self.old.source }
+        ensures rest { drop self.new.from self.new.bytes ++ S.rest self.new.source ≡ S.rest self.old.source }
     {
-        self.from = 0;
-        self.upto = 0;
         let count = self.source.left().min(FETCH_BYTES as u64) as usize;
-        match self.source.draw(&mut self.bytes[0..count]) {
-            Ok(()) => {
-                self.upto = count;
-            }
-            // not reached: the source has as many bytes; nothing would then be held
-            Err(_) => {}
-        }
+        let from = FETCH_BYTES - count;
+        // The source has as many bytes. If it refused them, nothing would be held.
+        let fetched = self.source.draw(&mut self.bytes[from..]);
+        self.from = if fetched.is_ok() { from } else { FETCH_BYTES };
     }
 }
 
 impl<S: Source> Source for Fetch<S> {
     ghost book = { λ s. S.Source.book s.source };
 
-    ghost rest = { λ s. held s.from s.upto s.bytes ++ S.Source.rest s.source };
+    ghost rest = { λ s. drop s.from s.bytes ++ S.Source.rest s.source };
 
     ghost fits = { λ s. S.Source.fits s.source };
 
@@ -66,25 +58,24 @@ impl<S: Source> Source for Fetch<S> {
     }
 
     fn draw(&mut self, buffer: &mut [u8]) -> Result<(), SourceFault> {
-        let from = self.from;
-        let upto = self.upto;
-        let have = upto - from;
-        let count = buffer.len();
-        if count <= have {
-            buffer.copy_from_slice(&self.bytes[from..from + count]);
-            self.from = from + count;
+        let held = FETCH_BYTES - self.from;
+        if buffer.len() <= held {
+            let upto = self.from + buffer.len();
+            buffer.copy_from_slice(&self.bytes[self.from..upto]);
+            self.from = upto;
             return Ok(());
         }
+        let (front, back) = buffer.split_at_mut(held);
         // The source below comes first: if it refuses, nothing is to be undone.
-        self.source.draw(&mut buffer[have..count])?;
-        buffer[0..have].copy_from_slice(&self.bytes[from..upto]);
+        self.source.draw(back)?;
+        front.copy_from_slice(&self.bytes[self.from..]);
         self.fetch_ahead();
         Ok(())
     }
 
     fn left(&self) -> u64 {
-        let have = (self.upto - self.from) as u64;
-        self.source.left().saturating_add(have)
+        let held = FETCH_BYTES - self.from;
+        self.source.left().saturating_add(held as u64)
     }
 }
 

@@ -34,8 +34,10 @@ impl<'a> Source for Tape<'a> {
     }
 
     fn draw(&mut self, buffer: &mut [u8]) -> Result<(), SourceFault> {
-        let parts = self.rest.split_at_checked(buffer.len());
-        let (drawn, rest) = parts.ok_or(SourceFault::Short)?;
+        let (drawn, rest) = self
+            .rest
+            .split_at_checked(buffer.len())
+            .ok_or(SourceFault::Short)?;
         buffer.copy_from_slice(drawn);
         self.rest = rest;
         Ok(())

@@ -21,6 +21,7 @@ pub struct Sponge {
 
 impl Sponge {
     /// A sponge with no bytes to come until it is started.
+    #[tactic(auto, using(shake::proofs::Laws::coming_none))]
     pub fn new() -> Sponge
         ensures { remaining result ≡ [] }
     {
@@ -38,6 +39,7 @@ impl Source for Sponge {
 
     ghost fits = { λ _. sponge_book_fits };
 
+    #[tactic(auto, unfolding(crate::specs::Book::sponge_book))]
     fn start(&mut self, label: u8, seed: &[u8; 32]) {
         let mut message = Absorbing::new();
         message.absorb(&[label]);
@@ -46,16 +48,18 @@ impl Source for Sponge {
         self.left = LIST_BYTES;
     }
 
+    #[tactic(auto, using(shake::proofs::Laws::length_coming, shake::proofs::Laws::take_coming))]
     fn draw(&mut self, buffer: &mut [u8]) -> Result<(), SourceFault> {
-        let count = buffer.len();
-        if self.left < count {
-            return Err(SourceFault::Short);
-        }
+        let left = self
+            .left
+            .checked_sub(buffer.len())
+            .ok_or(SourceFault::Short)?;
         self.stream.squeeze(buffer);
-        self.left -= count;
+        self.left = left;
         Ok(())
     }
 
+    #[tactic(auto, using(shake::proofs::Laws::length_coming))]
     fn left(&self) -> u64 {
         self.left as u64
     }

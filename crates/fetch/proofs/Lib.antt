@@ -1,2 +1,0 @@
--- Lemmas on the bytes held and those below.
-pub mod Layer

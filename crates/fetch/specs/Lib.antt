@@ -1,2 +1,0 @@
--- What the fetch layer holds.
-pub mod Held
