@@ -50,16 +50,14 @@ fn show(rt: &impl Print, name: &str, bytes: &[u8]) -> anyhow::Result<()> {
 }
 
 fn run(rt: &HostRuntime) -> anyhow::Result<()> {
-    match env::args(rt)?.nth(1) {
+    match env::args(rt)?.nth(1).as_deref() {
         None => {
             show(rt, "in", &hash_blocks(FEW_BLOCKS))?;
             show(rt, "out", &squeeze_blocks(FEW_BLOCKS))
         }
-        Some(word) => match word.as_str() {
-            "in" => show(rt, "in", &hash_blocks(MANY_BLOCKS)),
-            "out" => show(rt, "out", &squeeze_blocks(MANY_BLOCKS)),
-            _ => Err(anyhow!("the argument is neither in nor out")),
-        },
+        Some("in") => show(rt, "in", &hash_blocks(MANY_BLOCKS)),
+        Some("out") => show(rt, "out", &squeeze_blocks(MANY_BLOCKS)),
+        Some(_) => Err(anyhow!("the argument is neither in nor out")),
     }
 }
 

@@ -1,36 +1,14 @@
 // Runs the published vectors of SHAKE256 in data/shake256.txt: lines "message = HEX", each followed by a line "output = HEX".
 #![tactic(auto)]
 
-ghost use Rattle.std.specs.Prelude.{◌≡◌, ◌<◌, length, IfOk};
+ghost use Rattle.std.specs.Prelude.{◌≡◌, length};
 ghost use Rattle.shake.specs.Shake.{shake256};
 
 use anyhow::anyhow;
+use hex::decode;
 use shake::{Absorbing, hash};
 use std::alloc::Global;
 use std::fs;
-
-// The value of a hexadecimal digit.
-fn digit(c: u8) -> anyhow::Result<u8>
-    ensures { IfOk result (λ d. d < 16) }
-{
-    match c {
-        b'0'..=b'9' => Ok(c - b'0'),
-        b'a'..=b'f' => Ok(c - b'a' + 10),
-        _ => Err(anyhow!("not a hexadecimal digit")),
-    }
-}
-
-// The bytes that pairs of digits write.
-fn bytes(heap: Global, digits: &[u8]) -> anyhow::Result<Vec<u8>> {
-    let mut bytes = Vec::new(heap);
-    for pair in digits.chunks(2) {
-        let [high, low] = pair else {
-            return Err(anyhow!("an odd number of digits"));
-        };
-        bytes.push(digit(*high)? * 16 + digit(*low)?)?;
-    }
-    Ok(bytes)
-}
 
 // SHAKE256 of the message.
 fn shake(message: &[u8], out: &mut [u8])
@@ -65,9 +43,9 @@ fn run(rt: &HostRuntime) -> anyhow::Result<()> {
     let mut failed = 0u64;
     for line in text.lines() {
         if let Some(digits) = line.strip_prefix("message = ") {
-            message = bytes(heap, digits.as_bytes())?;
+            message = decode(heap, digits)?;
         } else if let Some(digits) = line.strip_prefix("output = ") {
-            let output = bytes(heap, digits.as_bytes())?;
+            let output = decode(heap, digits)?;
             let taken = message.len();
             let given = output.len();
             if agrees(heap, message.as_slice(), output.as_slice())? {
