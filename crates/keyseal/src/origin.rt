@@ -6,12 +6,11 @@ ghost use Rattle.keyseal.specs.Origin.{origin_book, origin_rest, origin_fits, bo
 use kit::{KitSource, new_source};
 use source::{Source, SourceFault, Tape};
 
-/// A tape and another source, of which one gives the bytes.
+/// The source that gives the bytes: a tape, or another.
 #[derive(Drop)]
-pub struct Origin<'a, S> {
-    tape: Tape<'a>,
-    source: S,
-    taped: bool,
+pub enum Origin<'a, S> {
+    Taped(Tape<'a>),
+    Other(S),
 }
 
 impl<'a, S: Source> Source for Origin<'a, S> {
@@ -22,26 +21,23 @@ impl<'a, S: Source> Source for Origin<'a, S> {
     ghost fits = { λ s. origin_fits S.Source.book S.Source.fits s };
 
     fn start(&mut self, label: u8, seed: &[u8; 32]) {
-        if self.taped {
-            self.tape.start(label, seed);
-        } else {
-            self.source.start(label, seed);
+        match self {
+            Origin::Taped(tape) => tape.start(label, seed),
+            Origin::Other(source) => source.start(label, seed),
         }
     }
 
     fn draw(&mut self, buffer: &mut [u8]) -> Result<(), SourceFault> {
-        if self.taped {
-            self.tape.draw(buffer)
-        } else {
-            self.source.draw(buffer)
+        match self {
+            Origin::Taped(tape) => tape.draw(buffer),
+            Origin::Other(source) => source.draw(buffer),
         }
     }
 
     fn left(&self) -> u64 {
-        if self.taped {
-            self.tape.left()
-        } else {
-            self.source.left()
+        match self {
+            Origin::Taped(tape) => tape.left(),
+            Origin::Other(source) => source.left(),
         }
     }
 }
@@ -50,9 +46,9 @@ impl<'a, S: Source> Source for Origin<'a, S> {
 pub(crate) fn bytes_from(tape: &[u8], taped: bool) -> Origin<'_, KitSource>
     ensures { origin_book (λ _. sponge_book) result ≡ book_of tape.now taped }
 {
-    Origin {
-        tape: Tape::new(tape),
-        source: new_source(),
-        taped,
+    if taped {
+        Origin::Taped(Tape::new(tape))
+    } else {
+        Origin::Other(new_source())
     }
 }
