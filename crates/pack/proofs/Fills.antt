@@ -15,7 +15,7 @@ unfolding fill_after value
 fill_none k bs le = ap value (drop_all k (run 8 bs) (omega (arith, length_run 8 bs)))
 
 -- the s fill bits are the low bits of the last byte
-pub fill_last : (k s : ℕ) (bs : List ℕ) → k + s ≡ length bs * 8 → 1 ≤ s → s ≤ 8 → fill_after k bs ≡ get_or bs (length bs - 1) 0 % 2 ^ s
+pub fill_last : (k s : ℕ) (bs : List ℕ) → k + s ≡ length bs * 8 → 1 ≤ length bs → s ≤ 8 → fill_after k bs ≡ get_or bs (length bs - 1) 0 % 2 ^ s
 unfolding fill_after
 fill_last k s bs e some most =
     let i : ℕ = length bs - 1 in

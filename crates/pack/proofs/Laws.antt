@@ -10,7 +10,7 @@ use Rattle.pack.specs.Bits.{bits, value, run, cut, filled, bytes, Below}
 use Rattle.pack.specs.Packing.{packed, fields_at, fill_after, unpacked}
 use Rattle.pack.specs.Trips.{UnpacksPacked, PacksUnpacked, Worked}
 use Rattle.pack.proofs.Runs.{bits_none, bits_value, value_bits, length_run, run_below, cut_run, run_cut, bytes_are, length_cut, cut_none, cut_below}
-use Rattle.pack.proofs.Cursors.{made_bare}
+use Rattle.ring.proofs.Listing.{map_undone}
 use Rattle.pack.proofs.Fills.{unpacked_ok}
 
 zeros_below : (k : ℕ) → Below 2 (replicate k 0)
@@ -157,7 +157,7 @@ reads (Err x) q a b xs ys P Q h e = let g = h.0 in let z : ◌≡◌ {A = ℕ} 0
 
 -- values with the same numbers are the same
 pub same_bare : {X : Type 0} (bare : X → ℕ) (made : ℕ → X) → ((x : X) → made (bare x) ≡ x) → (xs ys : List X) → map bare xs ≡ map bare ys → xs ≡ ys
-same_bare bare made h xs ys e = sym (made_bare bare made h xs) ∙ ap (map made) e ∙ made_bare bare made h ys
+same_bare bare made h xs ys e = sym (map_undone made bare h xs) ∙ ap (map made) e ∙ map_undone made bare h ys
 
 pub worked : Worked
 unfolding packed fields_at fill_after bits value run cut

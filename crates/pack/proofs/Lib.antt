@@ -1,4 +1,4 @@
 pub mod Runs
-pub mod Cursors
+pub mod Steps
 pub mod Fills
 pub mod Laws

@@ -1,7 +1,8 @@
 // Fields to bits to bytes, and back: what keys and parcels are made of.
 #![tactic(auto)]
 
-mod cursor;
+mod bit_reader;
+mod bit_writer;
 mod field;
 mod reader;
 mod trips;

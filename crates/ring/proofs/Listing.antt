@@ -1,5 +1,5 @@
 -- Lists that are written place by place, and lists made from a function of the place.
-use Rattle.std.proofs.Common.{◌≡◌, ℕ, zero, suc, ◌+◌, ◌<◌, ◌≢◌, List, [], ◌∷◌, map, length, get_or, set, arith, get_or-set_other, get_or-set_same, below_more}
+use Rattle.std.proofs.Common.{◌≡◌, ℕ, zero, suc, ◌+◌, ◌<◌, ◌≢◌, List, [], ◌∷◌, map, length, get_or, set, refl, arith, get_or-set_other, get_or-set_same, below_more}
 use Rattle.std.specs.List.{range_with_len}
 use Rattle.std.proofs.lemmas.List.FromFn.{length-map-range_with_len, get_or-map-range_with_len, fill_by_all}
 use Rattle.ring.specs.Lists.{listed}
@@ -35,3 +35,8 @@ listed_by n f xs d long each = fill_by_all f xs n d long each
 pub listed_holds : {X : Type 0} (P : X → Type 0) (n : ℕ) (f : ℕ → X) (d : X) → P d → ((k : ℕ) → P (f k)) → (k : ℕ) → P (get_or (listed n f) k d)
 unfolding listed
 listed_holds P n f d none some k = get_d_map_holds P f d none some (range_with_len 0 n) k
+
+-- a map that undoes another, over a list
+pub map_undone : {X Y : Type 0} (f : X → Y) (h : Y → X) → ((y : Y) → f (h y) ≡ y) → (ys : List Y) → map f (map h ys) ≡ ys
+map_undone f h e [] = refl
+map_undone f h e (y ∷ ys) = let first : f (h y) ≡ y = e y in let rest : map f (map h ys) ≡ ys = map_undone f h e ys in cc

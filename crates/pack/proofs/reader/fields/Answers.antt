@@ -1,20 +1,27 @@
-use Rattle.std.proofs.Common.{◌*◌, map, length, refl, ap, ◌∙◌}
+use Rattle.std.proofs.Common.{◌*◌, map, length, drop, ap, ◌∙◌, arith}
+use Rattle.std.proofs.lemmas.List.{length-drop}
+use Rattle.pack.specs.Bits.{cut}
 use Rattle.pack.specs.Packing.{fields_at}
-use Rattle.pack.proofs.Cursors.{start, fields_from}
+use Rattle.pack.specs.Places.{unread}
+use Rattle.pack.proofs.Runs.{length_run}
 use Rattle.pack.proofs.reader.fields.Goals as goal
 
+pub get_all-requires : goal.get_all-requires
+get_all-requires g c = omega (arith, ap length c.new-reader.ensures, length_run 8 c.args.bytes.now)
+
+pub get_all-requires-2 : goal.get_all-requires-2
+get_all-requires-2 g c =
+    omega (arith, ap length c.get_all.ensures.unread, length-drop (length c.args.xs.now * g.F.Field.width c.args.moduli) (unread c.new-reader.result), ap length c.new-reader.ensures, length_run 8 c.args.bytes.now)
+
 pub returns : goal.returns
+unfolding fields_at
 returns g c =
-    let bs = c.args.bytes.now in
     let n = length c.args.xs.now in
     let m = length c.args.ys.now in
-    let v = c.field_width-v.result in
-    let w = c.field_width-w.result in
+    let v = g.F.Field.width c.args.moduli in
+    let w = g.G.Field.width c.args.moduli in
+    let all = c.new-reader.ensures in
     record {
-      first =
-          c.get_all-next.ensures.value
-          ∙ ap (map g.F.Field.made) (fields_from 0 n v bs start refl ∙ ap (λ k. fields_at 0 n k bs) c.field_width-v.ensures);
-      second =
-          c.get_all.ensures.value
-          ∙ ap (map g.G.Field.made) (fields_from (n * v) m w bs c.get_all-next.result c.get_all-next.ensures.unread ∙ ap (λ k. fields_at (n * k) m w bs) c.field_width-v.ensures ∙ ap (λ k. fields_at (n * g.F.Field.width c.args.moduli) m k bs) c.field_width-w.ensures);
+      first = c.get_all.ensures.value ∙ ap (λ l. map g.F.Residue.made (cut n v l)) all;
+      second = c.get_all-2.ensures.value ∙ ap (λ l. map g.G.Residue.made (cut m w l)) (c.get_all.ensures.unread ∙ ap (drop (n * v)) all);
     }
