@@ -2,7 +2,7 @@
 use Rattle.std.proofs.Common.{◌≡◌, ℕ, suc, ◌+◌, ◌-◌, Bool, true, false, cond, List, [], ◌∷◌, ◌++◌, map, length, take, drop, set, Ok, Err, Result, refl, ap, ◌∙◌, arith}
 use borrow.Rule.Slice.PartMut.{put_mid}
 use Rattle.std.proofs.lemmas.List.{append-nil, length-append, length-drop, take_at, drop_at, drop_all}
-use Rattle.pack.proofs.Cursors.{bare_made}
+use Rattle.ring.proofs.Listing.{map_undone}
 use Rattle.wire.specs.declared.fault.WireFault.{WireFault}
 
 -- two parts, each written in its place, and the kind byte in front
@@ -33,4 +33,4 @@ passed false x e h = let z : ◌≡◌ {A = ℕ} 0 1 = cc in absurd (omega arith
 
 -- the words of fields that were read
 pub words_of : {X : Type 0} (bare : X → ℕ) (made : ℕ → X) → ((x : ℕ) → bare (made x) ≡ x) → (n m : ℕ) (xs : List X) (f : ℕ → List ℕ) → n ≡ m → xs ≡ map made (f n) → map bare xs ≡ f m
-words_of bare made h n m xs f e g = ap (map bare) g ∙ bare_made bare made h (f n) ∙ ap f e
+words_of bare made h n m xs f e g = ap (map bare) g ∙ map_undone bare made h (f n) ∙ ap f e
