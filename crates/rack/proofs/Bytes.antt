@@ -1,7 +1,8 @@
 -- Comparing and choosing bytes without a branch.
-use Rattle.std.proofs.Common.{◌≡◌, ℕ, ◌+◌, ◌*◌, ◌<◌, ◌≤◌, Bool, true, false, cond, ◌&&◌, eqb, List, [], length, get_or, drop, sym, refl, ap, ◌∙◌, inl, inr, mod-eq_of_lt, add-one, arith, drop-cons}
+use Rattle.std.proofs.Common.{◌≡◌, ℕ, ◌+◌, ◌*◌, ◌<◌, ◌≤◌, Bool, true, false, cond, ◌&&◌, eqb, List, [], ◌∷◌, length, get_or, drop, sym, refl, ap, ◌∙◌, inl, inr, mod-eq_of_lt, add-one, arith, drop-cons}
 use lib.Bits.{bit_and, bit_or, bit_xor, and_zero_l, and_comm, and_mask, and_le_r, or_zero_l, xor_zero_l, xor_zero_r, xor_self, xor_assoc, xor_lt, or_add_and}
-use Rattle.std.proofs.lemmas.List.{drop_all, ext_get_or}
+use Rattle.std.specs.List.{fold, zip}
+use Rattle.std.proofs.lemmas.List.{ext_get_or}
 use Rattle.std.proofs.lemmas.Bool.{cases_eq, eq-eqb, ne_eqb}
 use Rattle.std.proofs.lemmas.Nat.{mul-le}
 use Rattle.params.specs.Limits.{most_n}
@@ -32,33 +33,23 @@ picked mask x y hx hy false e =
     let all : bit_and 255 (bit_xor x y) ≡ bit_xor x y = and_comm 255 (bit_xor x y) ∙ and_mask (bit_xor x y) 8 ∙ mod-eq_of_lt (xor_lt 8 x y hx hy) in
     ap (λ m. bit_xor x (bit_and m (bit_xor x y))) e ∙ ap (bit_xor x) all ∙ sym (xor_assoc x x y) ∙ ap (λ n. bit_xor n y) (xor_self x) ∙ xor_zero_l y
 
-same_step : (xs ys : List ℕ) (i : ℕ) → i < length xs → length xs ≡ length ys → same (drop i xs) (drop i ys) ≡ (eqb (get_or xs i 0) (get_or ys i 0) && same (drop (i + 1) xs) (drop (i + 1) ys))
-same_step xs ys i l e =
-    let m : i < length ys = omega arith in
-    rw (add-one i, drop-cons xs i 0 l, drop-cons ys i 0 m) refl
-
 joined : (a b c : Bool) → ((a && b) && c) ≡ (a && (b && c))
 joined true b c = refl
 joined false b c = refl
-
--- one byte more compared
-pub same_more : (xs ys : List ℕ) (i all : ℕ) → i < length xs → length xs ≡ length ys → (eqb all 0 && same (drop i xs) (drop i ys)) ≡ same xs ys
-    → (eqb (bit_or all (bit_xor (get_or xs i 0) (get_or ys i 0))) 0 && same (drop (i + 1) xs) (drop (i + 1) ys)) ≡ same xs ys
-same_more xs ys i all l e inv =
-    let rest = same (drop (i + 1) xs) (drop (i + 1) ys) in
-    ap (λ t. t && rest) (or_test all (bit_xor (get_or xs i 0) (get_or ys i 0)) ∙ ap (λ t. eqb all 0 && t) (xor_test (get_or xs i 0) (get_or ys i 0)))
-    ∙ joined (eqb all 0) (eqb (get_or xs i 0) (get_or ys i 0)) rest ∙ ap (λ t. eqb all 0 && t) (sym (same_step xs ys i l e)) ∙ inv
 
 and_true : (a : Bool) → a ≡ (a && true)
 and_true true = refl
 and_true false = refl
 
--- all bytes compared
-pub same_all : (xs ys : List ℕ) (i : ℕ) (a : Bool) → length xs ≤ i → length xs ≡ length ys → (a && same (drop i xs) (drop i ys)) ≡ same xs ys → a ≡ same xs ys
-same_all xs ys i a l e inv =
-    let x : drop i xs ≡ [] = drop_all i xs l in
-    let y : drop i ys ≡ [] = drop_all i ys (omega arith) in
-    and_true a ∙ ap (λ v. a && v) (rw (x, y) refl) ∙ inv
+-- what all bytes differ in, taken together, is 0 exactly if the lists are the same
+pub differs : (all : ℕ) (xs ys : List ℕ) → length xs ≡ length ys → eqb (fold (λ (a : ℕ) (p : ℕ × ℕ). bit_or a (bit_xor p.0 p.1)) all (zip xs ys)) 0 ≡ (eqb all 0 && same xs ys)
+differs all [] [] e = and_true (eqb all 0)
+differs all [] (y ∷ ys) e = absurd (omega arith)
+differs all (x ∷ xs) [] e = absurd (omega arith)
+differs all (x ∷ xs) (y ∷ ys) e =
+    differs (bit_or all (bit_xor x y)) xs ys (omega arith)
+    ∙ ap (λ t. t && same xs ys) (or_test all (bit_xor x y) ∙ ap (λ t. eqb all 0 && t) (xor_test x y))
+    ∙ joined (eqb all 0) (eqb x y) (same xs ys)
 
 -- a list whose elements are all of one list or all of the other
 pub chosen_all : (t : Bool) (out xs ys : List ℕ) → length out ≡ length xs → length out ≡ length ys

@@ -1,5 +1,5 @@
 -- What each call on a rack answers, and what its places hold then.
-use Rattle.std.specs.Prelude.{ℕ, Bool, true, false, cond, ◌&&◌, List, [], ◌∷◌, length, take, drop, replicate, Ok, Err, Result, ◌==◌, nat_le, slice_index_or, slice_set, Option, Some, None}
+use Rattle.std.specs.Prelude.{ℕ, Bool, true, false, cond, ◌&&◌, List, [], ◌∷◌, ◌++◌, length, take, drop, replicate, Ok, Err, Result, ◌==◌, nat_le, slice_index_or, slice_set, Option, Some, None}
 use Rattle.params.specs.Sizes.{key_length, parcel_length}
 use Rattle.params.specs.declared.set.Set.{Set}
 use Rattle.sampler.specs.declared.SamplerFault.{SamplerFault}
@@ -32,6 +32,10 @@ at ps i = slice_index_or ps i None
 -- coins: σ, the seed of the till's secret, and z
 abbrev pub coins_from : List ℕ → Coins
 coins_from xs = record { sigma = take 32 xs; seed = take 32 (drop 32 xs); z = take 32 (drop 64 xs) }
+
+-- the bytes of coins, one part after the other
+abbrev pub coin_bytes : Coins → List ℕ
+coin_bytes c = c.sigma ++ (c.seed ++ c.z)
 
 -- the key of coins
 abbrev pub coins_key : Book → Set → Coins → Result (List ℕ) SamplerFault

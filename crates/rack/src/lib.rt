@@ -9,4 +9,4 @@ mod rack;
 mod record;
 
 pub use rack::Rack;
-pub use record::{Coins, PLACES, Record};
+pub use record::{COIN_BYTES, Coins, PLACES, Record};

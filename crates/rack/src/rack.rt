@@ -4,9 +4,7 @@ ghost use Rattle.calls.specs.Areas.{zeros};
 ghost use Rattle.calls.specs.Chains.{Answers};
 ghost use Rattle.rack.specs.Calls.{all_empty, issued, published, opened, retired};
 
-use crate::coins::{erase, find_coins};
-use crate::issue::{issue_within, publish_within};
-use crate::opening::open_within;
+use crate::coins::erase;
 use crate::record::{PLACES, Record};
 use calls::{Refusal, Wiped};
 use params::set::Set;
@@ -15,9 +13,9 @@ use source::Source;
 /// A till's rack: made for one set and one source, with four places.
 #[derive(Drop)]
 pub struct Rack<S> {
-    set: Set,
-    source: S,
-    places: [Record; PLACES],
+    pub(crate) set: Set,
+    pub(crate) source: S,
+    pub(crate) places: [Record; PLACES],
 }
 
 impl<S: Source> Rack<S> {
@@ -76,15 +74,7 @@ impl<S: Source> Rack<S> {
     {
         let secret_area = Wiped { area: secret_area };
         let product_area = Wiped { area: product_area };
-        issue_within(
-            &self.set,
-            &mut self.source,
-            &mut self.places,
-            place,
-            coins,
-            secret_area.area,
-            product_area.area,
-        )
+        self.issue_within(place, coins, secret_area.area, product_area.area)
     }
 
     /// Writes the key of the coins at a place.
@@ -105,15 +95,7 @@ impl<S: Source> Rack<S> {
     {
         let secret_area = Wiped { area: secret_area };
         let product_area = Wiped { area: product_area };
-        publish_within(
-            &self.set,
-            &mut self.source,
-            &self.places,
-            place,
-            key,
-            secret_area.area,
-            product_area.area,
-        )
+        self.publish_within(place, key, secret_area.area, product_area.area)
     }
 
     /// Writes the secret that the coins at a place make of a parcel. The answer does not say whether the parcels matched.
@@ -135,10 +117,7 @@ impl<S: Source> Rack<S> {
     {
         let secret_area = Wiped { area: secret_area };
         let product_area = Wiped { area: product_area };
-        open_within(
-            &self.set,
-            &mut self.source,
-            &self.places,
+        self.open_within(
             place,
             parcel,
             secret_out,
@@ -152,7 +131,7 @@ impl<S: Source> Rack<S> {
         ensures kept { (self.new.set ≡ self.old.set) × (self.new.source ≡ self.old.source) }
         ensures cases { Answers result (retired self.old.places place) self.new.places self.old.places }
     {
-        let _ = find_coins(&self.places, place)?;
+        let _ = self.find_coins(place)?;
         erase(&mut self.places[place as usize]);
         Ok(())
     }

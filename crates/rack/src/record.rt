@@ -1,7 +1,12 @@
 // What a place of a rack holds.
+ghost use Rattle.std.specs.Prelude.{◌≡◌};
+ghost use Rattle.rack.specs.Calls.{coins_from, coin_bytes};
 
 /// The places of a rack.
 pub const PLACES: usize = 4;
+
+/// The bytes of coins: σ, the seed and z, one after the other.
+pub const COIN_BYTES: usize = 96;
 
 /// Coins: σ, the seed of the till's secret, and z, which stands in for l where a parcel does not match.
 #[derive(Clone, Copy)]
@@ -13,3 +18,30 @@ pub struct Coins {
 
 /// A place's record: its coins, if it is in use.
 pub type Record = Option<Coins>;
+
+impl From<&[u8; COIN_BYTES]> for Coins {
+    ghost from_gives = { λ bytes coins. coins ≡ coins_from bytes.now };
+
+    fn from(bytes: &[u8; COIN_BYTES]) -> Coins {
+        let mut coins = Coins {
+            sigma: [0; 32],
+            seed: [0; 32],
+            z: [0; 32],
+        };
+        coins.sigma.copy_from_slice(&bytes[0..32]);
+        coins.seed.copy_from_slice(&bytes[32..64]);
+        coins.z.copy_from_slice(&bytes[64..96]);
+        coins
+    }
+}
+
+impl Coins {
+    /// The bytes of coins, which give them again.
+    pub fn bytes(&self) -> [u8; COIN_BYTES]
+        ensures { result ≡ coin_bytes self.now }
+    {
+        let mut bytes = [0u8; COIN_BYTES];
+        bytes.copy_from_slice([self.sigma, self.seed, self.z].as_flattened());
+        bytes
+    }
+}
