@@ -2,9 +2,6 @@
 ghost use Rattle.std.specs.Prelude.{◌≡◌, ◌+◌, length, Ok, Err, MatchResult};
 ghost use Rattle.params.specs.Sizes.{key_length};
 ghost use Rattle.ring.specs.Lists.{words_q, words_p};
-ghost use Rattle.ring.specs.Cyclic.{Within};
-ghost use Rattle.rounding.specs.Symbols.{rounded_product};
-ghost use Rattle.scheme.specs.Scheme.{key_from, key_of, public_polynomial, secret_positions};
 ghost use Rattle.rack.specs.Calls.{coins_key};
 ghost use Rattle.rack.specs.Made.{Remade};
 
@@ -18,32 +15,6 @@ use source::Source;
 use wire::write_key;
 
 const MOST: usize = MOST_N as usize;
-
-// b and the key, with the positions of the till's secret.
-fn write_from(
-    set: &Set,
-    sigma: &[u8; 32],
-    a: &[Coefficient],
-    secret: &[u16],
-    product: &mut [u16],
-    b: &mut [Rounded],
-    key: &mut [u8],
-)
-    requires a { length a.now ≡ set.now.n }
-    requires within { Within set.now.n secret.now }
-    requires product { length product.old ≡ set.now.n + 1 }
-    requires b { length b.old ≡ set.now.n }
-    requires key { length key.old ≡ key_length set.now }
-    ensures rounded { words_p b.new ≡ rounded_product set.now.moduli set.now.n (words_q a.now) secret.now }
-    ensures key { key.new ≡ key_from set.now sigma.now (words_q a.now) secret.now }
-{
-    let secret = Secret {
-        set,
-        positions: secret,
-    };
-    secret.round_times(a, product, b);
-    write_key(set, sigma, b, key);
-}
 
 // The polynomials and the key of coins; the positions of the secret are left in their area.
 pub(crate) fn remake_key<S: Source>(
@@ -68,7 +39,12 @@ pub(crate) fn remake_key<S: Source>(
 {
     expand_polynomial(set, source, &coins.sigma, product, a)?;
     expand_positions(set, source, &coins.seed, secret)?;
-    write_from(set, &coins.sigma, a, secret, product, b, key);
+    let till = Secret {
+        set,
+        positions: secret,
+    };
+    till.round_times(a, product, b);
+    write_key(set, &coins.sigma, b, key);
     Ok(())
 }
 

@@ -1,7 +1,5 @@
 // Open, without its guards.
 ghost use Rattle.std.specs.Prelude.{◌≡◌, ◌+◌, Bool, length, if◌then◌else◌, Ok, Err, MatchResult, ◌==◌, nat_eq};
-ghost use Rattle.params.specs.Sizes.{parcel_length};
-ghost use Rattle.wire.specs.Parcels.{parcel_content};
 ghost use Rattle.calls.specs.Chains.{Answers};
 ghost use Rattle.scheme.specs.Scheme.{secret_from};
 ghost use Rattle.rack.specs.Calls.{same, opening, open_checks, opened};
@@ -14,9 +12,9 @@ use params::MOST_N;
 use params::set::Set;
 use ring::{Coefficient, Rounded};
 use sampler::SamplerFault;
-use scheme::{encrypt, find_message, secret_from};
+use scheme::{Secret, encrypt, secret_from};
 use source::Source;
-use wire::check_parcel_content;
+use wire::Parcel;
 
 const MOST: usize = MOST_N as usize;
 
@@ -75,26 +73,24 @@ fn decide(again: &[u8], parcel: &[u8], l: &[u8; 32], z: &[u8; 32], out: &mut [u8
     secret_from(&chosen, parcel, out);
 }
 
-// The secret that coins make of a parcel that was tested.
+// The secret that coins make of a parcel.
 fn open_parcel<S: Source>(
-    set: &Set,
     source: &mut S,
     coins: &Coins,
-    parcel: &[u8],
+    parcel: &Parcel<'_>,
     out: &mut [u8],
     secret: &mut [u16],
     product: &mut [u16],
 ) -> Result<(), SamplerFault>
-    requires content { parcel_content set.now parcel.now ≡ Ok tt }
-    requires long { length parcel.now ≡ parcel_length set.now }
     requires out { length out.old ≡ 32 }
-    requires secret { length secret.old ≡ set.now.h }
-    requires product { length product.old ≡ set.now.n + 1 }
+    requires secret { length secret.old ≡ parcel.now.set.now.h }
+    requires product { length product.old ≡ parcel.now.set.now.n + 1 }
     ensures book { S.book source.new ≡ S.book source.old }
     ensures cases { MatchResult result
-        (λ _. opening (S.book source.old) set.now coins.now parcel.now ≡ Ok out.new)
-        (λ e. (opening (S.book source.old) set.now coins.now parcel.now ≡ Err e) × (out.new ≡ out.old)) }
+        (λ _. opening (S.book source.old) parcel.now.set.now coins.now parcel.now.bytes.now ≡ Ok out.new)
+        (λ e. (opening (S.book source.old) parcel.now.set.now coins.now parcel.now.bytes.now ≡ Err e) × (out.new ≡ out.old)) }
 {
+    let set = parcel.set;
     let n = set.n as usize;
     let mut a = [Coefficient(0); MOST];
     let mut b = [Rounded(0); MOST];
@@ -107,21 +103,27 @@ fn open_parcel<S: Source>(
     let message = &mut message[0..set.code.shape.kappa as usize / 8];
     let again = &mut again[0..set.parcel_len()];
     remake_key(set, source, coins, key, secret, product, a, b)?;
-    find_message(set, parcel, secret, product, message);
+    let till = Secret {
+        set,
+        positions: secret,
+    };
+    till.find_message(parcel, product, message);
     let l = encrypt(set, source, a, b, key, message, again, secret, product)?;
-    decide(again, parcel, &l, &coins.z, out);
+    decide(again, parcel.bytes, &l, &coins.z, out);
     Ok(())
 }
 
-// Everything that open tests of its buffers and its parcel, in the order of the refusals.
-fn check_open(
-    set: &Set,
+// Everything that open tests of its buffers and its parcel, in the order of the refusals; and the parcel.
+fn check_open<'p>(
+    set: &'p Set,
     secret: usize,
     secret_words: usize,
     product_words: usize,
-    parcel: &[u8],
-) -> Result<(), Refusal>
-    ensures { result ≡ open_checks set.now secret secret_words product_words parcel.now }
+    parcel: &'p [u8],
+) -> Result<Parcel<'p>, Refusal>
+    ensures { MatchResult result
+        (λ given. (open_checks set.now secret secret_words product_words parcel.now ≡ Ok tt) × (given.set.now ≡ set.now) × (given.bytes.now ≡ parcel.now))
+        (λ e. open_checks set.now secret secret_words product_words parcel.now ≡ Err e) }
 {
     expect(secret, 32, Refusal::WrongBuffer(Buffer::SecretOutput))?;
     expect_areas(secret_words, product_words)?;
@@ -130,8 +132,7 @@ fn check_open(
         set.parcel_len(),
         Refusal::WrongInput(Input::First, parcel.len()),
     )?;
-    check_parcel_content(set, parcel)?;
-    Ok(())
+    Ok(Parcel::check(set, parcel)?)
 }
 
 impl<S: Source> Rack<S> {
@@ -150,14 +151,13 @@ impl<S: Source> Rack<S> {
             out.new out.old }
     {
         let coins = self.find_coins(place)?;
-        check_open(&self.set, out.len(), secret.len(), product.len(), parcel)?;
+        let parcel = check_open(&self.set, out.len(), secret.len(), product.len(), parcel)?;
         let h = self.set.h as usize;
         let words = self.set.n as usize + 1;
         open_parcel(
-            &self.set,
             &mut self.source,
             &coins,
-            parcel,
+            &parcel,
             out,
             &mut secret[0..h],
             &mut product[0..words],

@@ -2,6 +2,8 @@
 ghost use Rattle.std.specs.Prelude.{◌≡◌};
 ghost use Rattle.rack.specs.Calls.{coins_from, coin_bytes};
 
+use calls::thirds;
+
 /// The places of a rack.
 pub const PLACES: usize = 4;
 
@@ -23,15 +25,8 @@ impl From<&[u8; COIN_BYTES]> for Coins {
     ghost from_gives = { λ bytes coins. coins ≡ coins_from bytes.now };
 
     fn from(bytes: &[u8; COIN_BYTES]) -> Coins {
-        let mut coins = Coins {
-            sigma: [0; 32],
-            seed: [0; 32],
-            z: [0; 32],
-        };
-        coins.sigma.copy_from_slice(&bytes[0..32]);
-        coins.seed.copy_from_slice(&bytes[32..64]);
-        coins.z.copy_from_slice(&bytes[64..96]);
-        coins
+        let [sigma, seed, z] = thirds(bytes);
+        Coins { sigma, seed, z }
     }
 }
 
