@@ -76,66 +76,32 @@ unfolding noises
 get_d_noises M μ e f xs i d lt = get_d_listed μ _ i d lt
 
 -- ---- words that hold a product
--- the reduced product modulo q
-residue_is : (M : Moduli) (n : ℕ) (a s ws : List ℕ) → ws ≡ cyclic_words n a s → (i : ℕ) → i ≤ n → sub16 (get_or ws i 0) (get_or ws n 0) % q M ≡ residue M n a s i
-residue_is M n a s ws e i le =
-    let f = cyclic (n + 1) (whole a) s in
-    ap₂ (λ x y. sub16 x y % q M) (ap (λ vs. get_or vs i 0) e ∙ get_d_cyclic_words n a s i 0 le) (ap (λ vs. get_or vs n 0) e ∙ get_d_cyclic_words n a s n 0 (omega arith))
-    ∙ ap (λ x. x % q M) (sym (mod_z_sub (2 ^ 16) (lit< tt) (f i) (f n)))
-    ∙ mod_z_cut 16 M.qb (omega arith) (f i -ℤ f n)
-    ∙ ap (mod_z (q M)) (sym (reduced_is n f i (omega arith)))
-
--- the cyclic product modulo p
-cross_is : (M : Moduli) (n : ℕ) (b r ws : List ℕ) → ws ≡ cyclic_words n b r → (i : ℕ) → i ≤ n → get_or ws i 0 % p M ≡ get_or (cross_product M n b r) i 0
-cross_is M n b r ws e i le =
-    ap (λ x. x % p M) (ap (λ vs. get_or vs i 0) e ∙ get_d_cyclic_words n b r i 0 le)
-    ∙ mod_z_cut 16 M.pb (omega arith) (cyclic (n + 1) (whole b) r i)
-    ∙ sym (get_d_cross_product M n b r i 0 le)
-
-long : (n : ℕ) (a s ws : List ℕ) → ws ≡ cyclic_words n a s → length ws ≡ n + 1
-long n a s ws e = ap length e ∙ length_cyclic_words n a s
-
--- ---- what each loop has written
 module _ (M : Moduli) (n : ℕ) (a s ws : List ℕ) (e : ws ≡ cyclic_words n a s) where
-  pub rounded_list : {X : Type 0} (word : X → ℕ) (d : X) → word d ≡ 0 → (out : List X) (m : ℕ) → m ≡ length out → length ws ≡ m + 1
-      → ((k : ℕ) → k < m → word (get_or out k d) ≡ rounded M (sub16 (get_or ws k 0) (get_or ws m 0) % q M)) → map word out ≡ rounded_product M n a s
-  unfolding rounded_product
-  rounded_list word d none out m same room each =
-      let whole_length = long n a s ws e in
-      let m-is : m ≡ n = omega arith in
-      listed_by n _ (map word out) (word d) (omega (arith, length-map out word)) (λ k lt.
-      get_or-map word out k d ∙ each k (omega arith) ∙ ap (λ l. rounded M (sub16 (get_or ws k 0) (get_or ws l 0) % q M)) m-is ∙ ap (rounded M) (residue_is M n a s ws e k (omega arith)))
+  word_is : (i : ℕ) → i ≤ n → get_or ws i 0 ≡ mod_z (2 ^ 16) (cyclic (n + 1) (whole a) s i)
+  word_is i le = ap (λ vs. get_or vs i 0) e ∙ get_d_cyclic_words n a s i 0 le
 
-  pub slip_list : (out : List ℤ) (m : ℕ) → m ≡ length out → length ws ≡ m + 1
-      → ((k : ℕ) → k < m → signed out k ≡ slip M (sub16 (get_or ws k 0) (get_or ws m 0) % q M)) → out ≡ slips M n a s
-  unfolding slips
-  slip_list out m same room each =
-      let whole_length = long n a s ws e in
-      let m-is : m ≡ n = omega arith in
-      listed_by n _ out (pos 0) (omega arith) (λ k lt.
-      each k (omega arith) ∙ ap (λ l. slip M (sub16 (get_or ws k 0) (get_or ws l 0) % q M)) m-is ∙ ap (slip M) (residue_is M n a s ws e k (omega arith)))
+  -- the reduced product modulo q
+  residue_is : (i : ℕ) → i ≤ n → sub16 (get_or ws i 0) (get_or ws n 0) % q M ≡ residue M n a s i
+  residue_is i le =
+      let f = cyclic (n + 1) (whole a) s in
+      ap₂ (λ x y. sub16 x y % q M) (word_is i le) (word_is n (omega arith))
+      ∙ ap (λ x. x % q M) (sym (mod_z_sub (2 ^ 16) (lit< tt) (f i) (f n)))
+      ∙ mod_z_cut 16 M.qb (omega arith) (f i -ℤ f n)
+      ∙ ap (mod_z (q M)) (sym (reduced_is n f i (omega arith)))
 
-  pub symbol_list : {X : Type 0} (word : X → ℕ) (d : X) → word d ≡ 0 → (bits : List ℕ) (out : List X) → length out ≡ length bits → length out ≤ length ws
-      → ((k : ℕ) → k < length out → word (get_or out k d) ≡ symbol M (get_or ws k 0 % p M) (get_or bits k 0)) → map word out ≡ symbols M (cross_product M n a s) bits
-  unfolding symbols
-  symbol_list word d none bits out same room each =
-      let whole_length = long n a s ws e in
-      listed_by (length bits) _ (map word out) (word d) (length-map out word ∙ same) (λ k lt.
-      get_or-map word out k d ∙ each k (omega arith) ∙ ap (λ x. symbol M x (get_or bits k 0)) (cross_is M n a s ws e k (omega arith)))
+  -- the cyclic product modulo p
+  cross_is : (i : ℕ) → i ≤ n → get_or ws i 0 % p M ≡ get_or (cross_product M n a s) i 0
+  cross_is i le =
+      ap (λ x. x % p M) (word_is i le)
+      ∙ mod_z_cut 16 M.pb (omega arith) (cyclic (n + 1) (whole a) s i)
+      ∙ sym (get_d_cross_product M n a s i 0 le)
 
-  pub raw_list : {X : Type 0} (word : X → ℕ) (d : X) → word d ≡ 0 → (sent : List X) (out : List ℕ) → length out ≡ length sent → length out ≤ length ws
-      → ((k : ℕ) → k < length out → get_or out k 0 ≡ raw_bit M (word (get_or sent k d)) (get_or ws k 0 % p M)) → out ≡ raw_bits M (map word sent) (cross_product M n a s)
-  unfolding raw_bits
-  raw_list word d none sent out same room each =
-      let whole_length = long n a s ws e in
-      listed_by (length (map word sent)) _ out 0 (same ∙ sym (length-map sent word)) (λ k lt.
-      each k (omega (arith, length-map sent word))
-      ∙ ap₂ (raw_bit M) (sym (get_or-map word sent k d) ∙ ap (get_or (map word sent) k) none) (cross_is M n a s ws e k (omega (arith, length-map sent word))))
+  -- a list with f of each coefficient of the reduced product
+  pub reduced_list : {Y : Type 0} (f : ℕ → Y) (ys : List Y) (d : Y) → length ys ≡ n
+      → ((k : ℕ) → k < n → get_or ys k d ≡ f (sub16 (get_or ws k 0) (get_or ws n 0) % q M)) → ys ≡ listed n (λ i. f (residue M n a s i))
+  reduced_list f ys d long each = listed_by n _ ys d long (λ k lt. each k lt ∙ ap f (residue_is k (omega arith)))
 
-  pub noise_list : (f g out : List ℤ) (μ : ℕ) → length out ≡ μ → μ ≤ length ws
-      → ((k : ℕ) → k < μ → signed out k ≡ noise M (signed f k -ℤ signed g k) (get_or ws k 0 % p M)) → out ≡ noises M μ f g (cross_product M n a s)
-  unfolding noises
-  noise_list f g out μ same room each =
-      let whole_length = long n a s ws e in
-      listed_by μ _ out (pos 0) same (λ k lt.
-      each k lt ∙ ap (noise M (signed f k -ℤ signed g k)) (cross_is M n a s ws e k (omega arith)))
+  -- a list with f of each place and the coefficient of the cyclic product there
+  pub crossed_list : {Y : Type 0} (f : ℕ → ℕ → Y) (ys : List Y) (d : Y) (m : ℕ) → length ys ≡ m → m ≤ n + 1
+      → ((k : ℕ) → k < m → get_or ys k d ≡ f k (get_or ws k 0 % p M)) → ys ≡ listed m (λ i. f i (get_or (cross_product M n a s) i 0))
+  crossed_list f ys d m long room each = listed_by m _ ys d long (λ k lt. each k lt ∙ ap (f k) (cross_is k (omega arith)))

@@ -4,6 +4,8 @@
 mod elements;
 mod laws;
 mod lists;
+mod product;
 
 pub use laws::rounding_laws;
-pub use lists::{noise, out_of_band, raw_bits, round_product, slips, symbols};
+pub use lists::out_of_band;
+pub use product::Product;
