@@ -9,8 +9,8 @@ ghost use Rattle.lab.specs.Lab.{gauge_checks, gauging, gauged, noise_between};
 use calls::{AREA_WORDS, Buffer, Input, Refusal, Wiped, expect, expect_areas, thirds};
 use params::MOST_N;
 use params::set::Set;
-use ring::{Coefficient, Rounded, multiply_residues, multiply_signed};
-use rounding::{noise, out_of_band, round_product, slips};
+use ring::{Coefficient, Rounded, multiply_signed};
+use rounding::{Product, out_of_band};
 use sampler::SamplerFault;
 use scheme::{Secret, expand_polynomial, expand_positions};
 use source::Source;
@@ -48,8 +48,7 @@ fn slips_of(secret: &Secret<'_>, a: &[Coefficient], product: &mut [u16], out: &m
     ensures value { out.new ≡ slips secret.now.set.now.moduli secret.now.set.now.n (words_q a.now) secret.now.positions.now }
     ensures near { (k : ℕ) → unsigned_abs (signed out.new k) ≤ 2 ^ 14 }
 {
-    multiply_residues(a, secret.positions, product);
-    slips(secret.set.moduli, product, out);
+    Product::of(a, secret.positions, product).slips(secret.set.moduli, out);
 }
 
 // The same, and the rounded product itself.
@@ -68,9 +67,9 @@ fn rounded_and_slips(
     ensures value { out.new ≡ slips secret.now.set.now.moduli secret.now.set.now.n (words_q a.now) secret.now.positions.now }
     ensures near { (k : ℕ) → unsigned_abs (signed out.new k) ≤ 2 ^ 14 }
 {
-    multiply_residues(a, secret.positions, product);
-    round_product(secret.set.moduli, product, b);
-    slips(secret.set.moduli, product, out);
+    let product = Product::of(a, secret.positions, product);
+    product.round(secret.set.moduli, b);
+    product.slips(secret.set.moduli, out);
 }
 
 // The noise between two secrets.
@@ -104,8 +103,7 @@ fn fill_noise(
     slips_of(station, a, product, station_slips);
     multiply_signed(till_slips, station.positions, first);
     multiply_signed(station_slips, till.positions, second);
-    multiply_residues(b, station.positions, product);
-    noise(till.set.moduli, first, second, product, out);
+    Product::of(b, station.positions, product).noise(till.set.moduli, first, second, out);
 }
 
 // With the parts of the working areas that the set takes. The station's secret has no place in the areas: it is held here, and wiped.

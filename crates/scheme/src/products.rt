@@ -7,8 +7,8 @@ ghost use Rattle.rounding.specs.Symbols.{rounded_product, cross_product, symbols
 use crate::secret::Secret;
 use code::encode;
 use params::MOST_N;
-use ring::{Coefficient, Rounded, Symbol, multiply_residues};
-use rounding::{raw_bits, round_product, symbols};
+use ring::{Coefficient, Rounded, Symbol};
+use rounding::Product;
 
 const MOST: usize = MOST_N as usize;
 
@@ -20,8 +20,7 @@ impl Secret<'_> {
         requires out { length out.old ≡ self.now.set.now.n }
         ensures { words_p out.new ≡ rounded_product self.now.set.now.moduli self.now.set.now.n (words_q a.now) self.now.positions.now }
     {
-        multiply_residues(a, self.positions, product);
-        round_product(self.set.moduli, product, out);
+        Product::of(a, self.positions, product).round(self.set.moduli, out);
     }
 
     // The symbols that hide the code word of a message under the cyclic product of b and the secret.
@@ -41,8 +40,7 @@ impl Secret<'_> {
         let mut word = [0u8; MOST];
         let word = &mut word[0..self.set.code.mu as usize];
         encode(&self.set.code, message, word);
-        multiply_residues(b, self.positions, product);
-        symbols(self.set.moduli, product, word, out);
+        Product::of(b, self.positions, product).symbols(self.set.moduli, word, out);
     }
 
     // The raw bits of symbols, read with the cyclic product of u and the secret.
@@ -53,7 +51,6 @@ impl Secret<'_> {
         requires out { length out.old ≡ self.now.set.now.code.mu }
         ensures { out.new ≡ raw_bits self.now.set.now.moduli (words_t v.now) (cross_product self.now.set.now.moduli self.now.set.now.n (words_p u.now) self.now.positions.now) }
     {
-        multiply_residues(u, self.positions, product);
-        raw_bits(self.set.moduli, v, product, out);
+        Product::of(u, self.positions, product).raw_bits(self.set.moduli, v, out);
     }
 }
