@@ -1,17 +1,16 @@
 -- The lists, place by place, and what words that hold a product stand for.
-use Rattle.std.proofs.Common.{◌≡◌, ℕ, ◌+◌, ◌%◌, ◌^◌, ◌<◌, ◌≤◌, ltb, List, map, length, get_or, ℤ, pos, ◌-ℤ◌, sym, ap, ◌∙◌, ap₂, inl, inr, mod-eq_of_lt, arith, lit<, pow_pos}
-use Rattle.std.proofs.lemmas.List.{length-map, get_or_past}
+use Rattle.std.proofs.Common.{◌≡◌, ℕ, ◌+◌, ◌%◌, ◌^◌, ◌<◌, ◌≤◌, ltb, List, length, get_or, ℤ, pos, ◌-ℤ◌, sym, ap, ◌∙◌, ap₂, inl, inr, mod-eq_of_lt, arith, lit<, pow_pos}
+use Rattle.std.proofs.lemmas.List.{get_or_past}
 use Rattle.std.proofs.lemmas.Bool.{cases_lt, cond-false, le-ltb}
 use Rattle.params.specs.Sizes.{q, p}
 use Rattle.params.specs.declared.moduli.Moduli.{Moduli}
-use Rattle.std.proofs.Math.ListN.{get_or-map}
 use Rattle.ring.specs.Words.{sub16}
 use Rattle.ring.specs.Lists.{listed, whole, signed}
 use Rattle.ring.specs.Cyclic.{cyclic, mod_z, cyclic_words}
 use Rattle.ring.proofs.Congruences.{mod_z_sub, mod_z_cut}
 use Rattle.ring.proofs.Listing.{length_listed, get_d_listed, listed_by}
 use Rattle.ring.proofs.CyclicLaws.{reduced_is}
-use Rattle.ring.proofs.Bridge.{length_cyclic_words, get_d_cyclic_words}
+use Rattle.ring.proofs.Bridge.{get_d_cyclic_words}
 use Rattle.rounding.specs.Rounding.{rounded, symbol, raw_bit, slip, noise}
 use Rattle.rounding.proofs.Sizes.{rounded_zero, slip_zero}
 use Rattle.rounding.specs.Symbols.{residue, rounded_product, slips, cross_product, symbols, raw_bits, noises}

@@ -1,5 +1,4 @@
-// Rounding, symbols, raw bits, slips and noise over lent slices. Each contract says what is written where the product area holds the product of a polynomial and a secret.
-// Every caller has just made that product, and lends slices of these lengths. (Any words at all are the product of themselves and the secret +1 at 0.)
+// Rounding, symbols, raw bits, slips and noise, written into lent slices. Every caller lends slices of these lengths.
 ghost use Rattle.std.specs.Prelude.{◌≡◌, ℕ, ◌+◌, ◌^◌, ◌<◌, ◌≤◌, List, length, slice_index, slice_index_or, unsigned_abs};
 ghost use Rattle.ring.specs.Words.{sub16};
 ghost use Rattle.ring.specs.Lists.{words_q, words_p, words_t, signed};
