@@ -1,19 +1,16 @@
 // What a parameter set promises by its numbers alone.
 #![tactic(auto)]
 
-mod listed;
-mod report;
 mod stop;
 
-use crate::report::{Part, print_part, print_refusals, print_table};
 use crate::stop::Stop;
 use params::set::Set;
+use report::{COSTS, NEIGHBOURS, Part, RING, print_refusals, print_report, print_table};
 use setfile::file::read_set;
 use setfile::proposed::proposal;
 use std::process::ExitCode;
 use std::rt::{Env, Files};
-use std::{env, fs};
-use words::Refusal;
+use std::{env, fs, io};
 
 const HELP: &str = "\
 sealkit              the built-in sets, two that are unlawful, and what being below the line costs
@@ -45,95 +42,82 @@ bound on the noise of a symbol, and q/4 is the line that the noise must not cros
 Where a set is not below the line, these numbers rule nothing out and say nothing more.
 ";
 
-const RING: &str = "
-Keys and parcels are in bytes. Every set is taken in the cyclic ring as yet; Round5 takes its sets
-without a code, those whose names end in 0d, in the smaller ring.";
-
-const COSTS: &str = "
-What being below the line costs. For each set that is not: the set with the same n, h and code and
-the same qb - pb whose pb and tb put it below the line with the fewest bytes of key and parcel.";
-
-const CLOSING: &str = "
-No neighbour is a published set, and nothing here judges the security of one.";
-
 // The built-in sets.
-fn show_sets(rt: &HostRuntime) -> Result<(), Stop> {
-    print_table(rt, Part::Numbers)?;
+fn show_sets(rt: &HostRuntime) -> Result<(), Stop<'static>> {
+    print_table::<Stop>(rt, Part::Numbers)?;
     println!(rt; "")?;
-    print_table(rt, Part::Line)?;
+    print_table::<Stop>(rt, Part::Line)?;
     println!(rt; "{RING}")?;
     Ok(())
 }
 
 // The whole task: the built-in sets, what an unlawful set gets, and what being below the line costs.
-fn show_all(rt: &HostRuntime) -> Result<(), Stop> {
+fn show_all(rt: &HostRuntime) -> Result<(), Stop<'static>> {
     println!(rt; "{OPENING}")?;
     show_sets(rt)?;
     println!(rt; "")?;
-    print_table(rt, Part::Parcels)?;
+    print_table::<Stop>(rt, Part::Parcels)?;
     print_refusals(rt)?;
     println!(rt; "{COSTS}")?;
-    print_table(rt, Part::Neighbour)?;
-    println!(rt; "{CLOSING}")?;
+    print_table::<Stop>(rt, Part::Neighbour)?;
+    println!(rt; "{NEIGHBOURS}")?;
     Ok(())
 }
 
 // The set that a file states.
-fn load_set(rt: &HostRuntime, path: String) -> Result<Set, Stop> {
-    let text = match fs::read(rt, path.as_str()) {
-        Ok(text) => text,
-        Err(e) => return Err(Stop::NoFile(path, e)),
-    };
-    let draft = match read_set(text.as_slice()) {
-        Ok(draft) => draft,
-        Err(fault) => return Err(Stop::BadFile(path, fault)),
-    };
-    match Set::make(&proposal(&draft)) {
-        Ok(set) => Ok(set),
-        Err(fault) => Err(Stop::Refused(Refusal { fault })),
-    }
+fn load_set<'a>(rt: &HostRuntime, path: &'a str) -> Result<Set, Stop<'a>> {
+    let text = fs::read(rt, path).map_err(|e| Stop::NoFile(path, e))?;
+    let draft = read_set(text.as_slice()).map_err(|fault| Stop::BadFile(path, fault))?;
+    Ok(Set::make(&proposal(&draft))?)
 }
 
 // The report on the set of a file.
-fn show_file(rt: &HostRuntime, path: String) -> Result<(), Stop> {
-    let set = load_set(rt, path)?;
-    print_part(rt, Part::Numbers, &set)?;
-    println!(rt; "")?;
-    print_part(rt, Part::Line, &set)?;
-    if !set.below_line() {
-        println!(rt; "{COSTS}")?;
-        print_part(rt, Part::Neighbour, &set)?;
-        println!(rt; "{CLOSING}")?;
-    }
-    println!(rt; "")?;
-    print_part(rt, Part::Parcels, &set)?;
+fn show_file<'a>(rt: &HostRuntime, path: &'a str) -> Result<(), Stop<'a>> {
+    print_report(rt, &load_set(rt, path)?)?;
     Ok(())
 }
 
 // Does what the words of the command line ask.
-fn run(rt: &HostRuntime) -> Result<(), Stop> {
-    let mut words = env::args(rt)?.skip(1);
-    let Some(first) = words.next() else {
-        return show_all(rt);
-    };
-    let second = words.next();
-    if words.next().is_some() {
-        return Err(Stop::Usage);
-    }
-    match (first.as_str(), second) {
-        ("help", None) => Ok(println!(rt; "{HELP}")?),
-        ("sets", None) => show_sets(rt),
-        ("set", Some(path)) => show_file(rt, path),
+fn obey<'a>(rt: &HostRuntime, words: &[&'a str]) -> Result<(), Stop<'a>> {
+    match words {
+        [] => show_all(rt),
+        ["help"] => Ok(println!(rt; "{HELP}")?),
+        ["sets"] => show_sets(rt),
+        ["set", path] => show_file(rt, path),
         _ => Err(Stop::Usage),
     }
 }
 
+// The words of the command line after the program's own.
+fn read_words(rt: &HostRuntime) -> io::Result<Vec<String>> {
+    let mut words = Vec::new(rt.alloc());
+    for word in env::args(rt)?.skip(1) {
+        words.push(word)?;
+    }
+    Ok(words)
+}
+
+fn run<'a>(rt: &HostRuntime, words: &'a [String]) -> Result<(), Stop<'a>> {
+    let texts: Vec<&'a str> = words
+        .iter()
+        .map(|word| word.as_str())
+        .collect(rt.alloc())
+        .map_err(io::Error::from)?;
+    obey(rt, texts.as_slice())
+}
+
+// Tells what ended a run.
+fn fail(rt: &HostRuntime, stop: Stop) -> ExitCode {
+    let _ = eprintln!(rt; "{stop}");
+    ExitCode::FAILURE
+}
+
 fn main(rt: HostRuntime) -> ExitCode {
-    match run(&rt) {
-        Ok(()) => ExitCode::SUCCESS,
-        Err(e) => {
-            let _ = eprintln!(rt; "{e}");
-            ExitCode::FAILURE
-        }
+    match read_words(&rt) {
+        Ok(words) => match run(&rt, words.as_slice()) {
+            Ok(()) => ExitCode::SUCCESS,
+            Err(stop) => fail(&rt, stop),
+        },
+        Err(e) => fail(&rt, Stop::Io(e)),
     }
 }

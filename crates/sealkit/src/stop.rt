@@ -1,32 +1,39 @@
 // What ends a run with status 1, and the line that tells it.
+use params::proposal::SetFault;
 use setfile::fault::Fault;
 use std::{fmt, io};
 use words::Refusal;
 
 #[derive(Drop)]
-pub enum Stop {
+pub enum Stop<'a> {
     // A set that is not lawful.
-    Refused(Refusal),
+    Refused(SetFault),
     // A file that states no set.
-    BadFile(String, Fault),
+    BadFile(&'a str, Fault),
     // A file that cannot be read.
-    NoFile(String, io::Error),
+    NoFile(&'a str, io::Error),
     // Words that are no command.
     Usage,
     // An argument that cannot be read, or a text that cannot be written.
     Io(io::Error),
 }
 
-impl From<io::Error> for Stop {
-    fn from(e: io::Error) -> Stop {
+impl From<io::Error> for Stop<'_> {
+    fn from(e: io::Error) -> Self {
         Stop::Io(e)
     }
 }
 
-impl fmt::Display for Stop {
+impl From<SetFault> for Stop<'_> {
+    fn from(fault: SetFault) -> Self {
+        Stop::Refused(fault)
+    }
+}
+
+impl fmt::Display for Stop<'_> {
     fn fmt<W: fmt::Write>(&self, f: &mut fmt::Formatter<W>) -> fmt::Result {
         match self {
-            Stop::Refused(refusal) => write!(f, "{refusal}"),
+            Stop::Refused(fault) => write!(f, "{}", Refusal { fault: *fault }),
             Stop::BadFile(path, fault) => write!(f, "{path}: {fault}"),
             Stop::NoFile(path, e) => write!(f, "{path}: {e}"),
             Stop::Usage => write!(f, "sealkit: no such command; try sealkit help"),

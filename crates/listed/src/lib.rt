@@ -1,11 +1,27 @@
-// The built-in sets, and two that are unlawful.
-use params::proposal::Proposal;
+// Sets by their names: the built-in sets, and two that are unlawful.
+#![tactic(auto)]
+
+ghost use Rattle.std.specs.Prelude.{MatchResult};
+ghost use Rattle.params.specs.Rules.{Lawful, Told};
+ghost use Rattle.params.specs.Made.{Holds};
+
+use params::proposal::{Proposal, SetFault};
+use params::set::Set;
 
 // A set by its name.
 #[derive(Clone, Copy)]
 pub struct Listed {
     pub name: &'static str,
     pub proposal: Proposal<&'static [u16]>,
+}
+
+impl Listed {
+    // The set, if its numbers are lawful.
+    pub fn make(&self) -> Result<Set, SetFault>
+        ensures { MatchResult result (λ s. Lawful self.now.proposal × Holds s self.now.proposal) (λ e. Told e self.now.proposal × (Lawful self.now.proposal → ⊥)) }
+    {
+        Set::make(&self.proposal)
+    }
 }
 
 // The small set T, and six of Round5's ring sets by their published names.
