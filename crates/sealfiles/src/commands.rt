@@ -1,11 +1,10 @@
 // The calls of the kit, on files.
-use crate::files::{Output, check_name, owned, read_bytes, write_one, write_two};
-use crate::racks::{load_rack, load_set, store_rack};
+use crate::files::{Output, check_name, read_bytes, write_one, write_two};
+use crate::racks::{Site, load_set, store_rack};
 use crate::stop::Stop;
 use calls::AREA_WORDS;
-use kit::new_source;
 use lab::{gauge, raw_read};
-use rack::{PLACES, Rack};
+use rack::PLACES;
 use seal::seal;
 use source::Source;
 
@@ -25,65 +24,47 @@ impl Areas {
     }
 }
 
-// The number that a word gives for a place; whether a rack has such a place is the call's to say.
-fn read_place(rt: &HostRuntime, word: &str) -> Result<u8, Stop> {
-    match word.parse::<u8>() {
-        Ok(place) => Ok(place),
-        Err(_) => Err(Stop::NoPlace(owned(rt, word)?)),
-    }
-}
-
-pub fn make_rack(rt: &HostRuntime, set: &str, rack: &str) -> Result<(), Stop> {
-    check_name(rt, rack, &[set])?;
+pub fn make_rack<'a>(rt: &HostRuntime, set: &'a str, rack: &'a str) -> Result<(), Stop<'a>> {
+    check_name(rack, &[set])?;
     let set = load_set(rt, set)?;
     store_rack(rt, rack, &set, &[None; PLACES])
 }
 
-pub fn retire(rt: &HostRuntime, path: &str, place: &str) -> Result<(), Stop> {
-    let place = read_place(rt, place)?;
-    let held = load_rack(rt, path)?;
-    let mut rack = Rack::resume(held.set, new_source(), held.places);
-    rack.retire(place)?;
-    store_rack(rt, path, rack.set(), rack.places())
+pub fn retire<'a, S: Source + Drop>(rt: &HostRuntime, site: Site<'a, S>) -> Result<(), Stop<'a>> {
+    let mut till = site.load(rt)?;
+    till.rack.retire(till.place)?;
+    till.store(rt)
 }
 
-pub fn issue<S: Source + Drop>(
+pub fn issue<'a, S: Source + Drop>(
     rt: &HostRuntime,
-    source: S,
-    path: &str,
-    place: &str,
-    coins: &str,
-) -> Result<(), Stop> {
-    check_name(rt, path, &[coins])?;
-    let place = read_place(rt, place)?;
-    let held = load_rack(rt, path)?;
+    site: Site<'a, S>,
+    coins: &'a str,
+) -> Result<(), Stop<'a>> {
+    check_name(site.path, &[coins])?;
+    let mut till = site.load(rt)?;
     let coins = read_bytes(rt, coins)?;
     let mut areas = Areas::new();
-    let mut rack = Rack::resume(held.set, source, held.places);
-    rack.issue(
-        place,
+    till.rack.issue(
+        till.place,
         coins.as_slice(),
         &mut areas.secret,
         &mut areas.product,
     )?;
-    store_rack(rt, path, rack.set(), rack.places())
+    till.store(rt)
 }
 
-pub fn publish<S: Source + Drop>(
+pub fn publish<'a, S: Source + Drop>(
     rt: &HostRuntime,
-    source: S,
-    path: &str,
-    place: &str,
-    key: &str,
-) -> Result<(), Stop> {
-    check_name(rt, key, &[path])?;
-    let place = read_place(rt, place)?;
-    let held = load_rack(rt, path)?;
-    let mut bytes = vec![in rt.alloc(); 0u8; held.set.key_len()]?;
+    site: Site<'a, S>,
+    key: &'a str,
+) -> Result<(), Stop<'a>> {
+    check_name(key, &[site.path])?;
+    let mut till = site.load(rt)?;
+    let mut bytes = vec![in rt.alloc(); 0u8; till.rack.set().key_len()]?;
     let mut areas = Areas::new();
-    let mut rack = Rack::resume(held.set, source, held.places);
-    rack.publish(
-        place,
+    till.rack.publish(
+        till.place,
         bytes.as_mut_slice(),
         &mut areas.secret,
         &mut areas.product,
@@ -91,23 +72,19 @@ pub fn publish<S: Source + Drop>(
     write_one(rt, key, bytes.as_slice())
 }
 
-pub fn open<'x, S: Source + Drop>(
+pub fn open<'a, S: Source + Drop>(
     rt: &HostRuntime,
-    source: S,
-    path: &'x str,
-    place: &str,
-    parcel: &'x str,
-    secret: &str,
-) -> Result<(), Stop> {
-    check_name(rt, secret, &[path, parcel])?;
-    let place = read_place(rt, place)?;
-    let held = load_rack(rt, path)?;
+    site: Site<'a, S>,
+    parcel: &'a str,
+    secret: &'a str,
+) -> Result<(), Stop<'a>> {
+    check_name(secret, &[site.path, parcel])?;
+    let mut till = site.load(rt)?;
     let parcel = read_bytes(rt, parcel)?;
     let mut bytes = [0u8; 32];
     let mut areas = Areas::new();
-    let mut rack = Rack::resume(held.set, source, held.places);
-    rack.open(
-        place,
+    till.rack.open(
+        till.place,
         parcel.as_slice(),
         &mut bytes,
         &mut areas.secret,
@@ -116,17 +93,17 @@ pub fn open<'x, S: Source + Drop>(
     write_one(rt, secret, &bytes)
 }
 
-pub fn seal_message<'x, S: Source>(
+pub fn seal_message<'a, S: Source>(
     rt: &HostRuntime,
     source: &mut S,
-    set: &'x str,
-    key: &'x str,
-    message: &'x str,
-    parcel: &'x str,
-    secret: &'x str,
-) -> Result<(), Stop> {
-    check_name(rt, parcel, &[set, key, message, secret])?;
-    check_name(rt, secret, &[set, key, message])?;
+    set: &'a str,
+    key: &'a str,
+    message: &'a str,
+    parcel: &'a str,
+    secret: &'a str,
+) -> Result<(), Stop<'a>> {
+    check_name(parcel, &[set, key, message, secret])?;
+    check_name(secret, &[set, key, message])?;
     let set = load_set(rt, set)?;
     let key = read_bytes(rt, key)?;
     let message = read_bytes(rt, message)?;
@@ -148,15 +125,15 @@ pub fn seal_message<'x, S: Source>(
     write_two(rt, &first, &second)
 }
 
-pub fn read_raw<'x, S: Source>(
+pub fn read_raw<'a, S: Source>(
     rt: &HostRuntime,
     source: &mut S,
-    set: &'x str,
-    seed: &'x str,
-    parcel: &'x str,
-    raw: &str,
-) -> Result<(), Stop> {
-    check_name(rt, raw, &[set, seed, parcel])?;
+    set: &'a str,
+    seed: &'a str,
+    parcel: &'a str,
+    raw: &'a str,
+) -> Result<(), Stop<'a>> {
+    check_name(raw, &[set, seed, parcel])?;
     let set = load_set(rt, set)?;
     let seed = read_bytes(rt, seed)?;
     let parcel = read_bytes(rt, parcel)?;
@@ -175,7 +152,7 @@ pub fn read_raw<'x, S: Source>(
 }
 
 // Numbers on one line, with a space between each two.
-fn print_numbers(rt: &HostRuntime, numbers: &[i32]) -> Result<(), Stop> {
+fn print_numbers(rt: &HostRuntime, numbers: &[i32]) -> Result<(), Stop<'static>> {
     let mut line = String::new(rt.alloc());
     for x in numbers {
         if !line.is_empty() {
@@ -187,12 +164,12 @@ fn print_numbers(rt: &HostRuntime, numbers: &[i32]) -> Result<(), Stop> {
     Ok(())
 }
 
-pub fn gauge_seeds<S: Source>(
+pub fn gauge_seeds<'a, S: Source>(
     rt: &HostRuntime,
     source: &mut S,
-    set: &str,
-    seeds: &str,
-) -> Result<(), Stop> {
+    set: &'a str,
+    seeds: &'a str,
+) -> Result<(), Stop<'a>> {
     let set = load_set(rt, set)?;
     let seeds = read_bytes(rt, seeds)?;
     let mut noise = vec![in rt.alloc(); 0i32; set.code.mu as usize]?;

@@ -1,18 +1,17 @@
 // One parcel's journey, from the coins of a till to its secret, and the answer that it shows.
 use crate::commands::Areas;
-use crate::listed::{LISTED, Listed};
 use crate::stop::Stop;
 use crate::texts::{JOURNEY, QUESTION};
 use code::encode;
 use kit::{KitSource, always_opens, new_rack, new_source};
 use lab::{correct_raw, gauge, raw_read};
+use listed::{LISTED, Listed};
 use neighbour::{cost_of, neighbour};
 use params::set::Set;
 use rack::Rack;
 use scheme::station_seed;
 use seal::seal;
 use std::fmt;
-use words::Refusal;
 
 // The place of the rack that the journey uses.
 const PLACE: u8 = 0;
@@ -51,9 +50,8 @@ fn till_seed(coins: &[u8; 96]) -> [u8; 32] {
 // The seeds of a gauge: σ and the seed of the till's secret from the coins, and the seed of the station's from the sealing.
 fn gauge_seeds(coins: &[u8; 96], station: &[u8; 32]) -> [u8; 96] {
     let mut seeds = [0u8; 96];
-    for i in 0..96 {
-        seeds[i] = if i < 64 { coins[i] } else { station[i - 64] };
-    }
+    seeds[..64].copy_from_slice(&coins[..64]);
+    seeds[64..].copy_from_slice(station);
     seeds
 }
 
@@ -71,7 +69,7 @@ struct Journey {
 }
 
 impl Journey {
-    fn new(rt: &HostRuntime, set: Set) -> Result<Journey, Stop> {
+    fn new(rt: &HostRuntime, set: Set) -> Result<Journey, Stop<'static>> {
         let mut coins = [0u8; 96];
         fill(&mut coins, 1);
         let mut message = vec![in rt.alloc(); 0u8; set.code.shape.kappa as usize / 8]?;
@@ -88,7 +86,7 @@ impl Journey {
         })
     }
 
-    fn issue(&mut self, rt: &HostRuntime) -> Result<(), Stop> {
+    fn issue(&mut self, rt: &HostRuntime) -> Result<(), Stop<'static>> {
         let mut areas = Areas::new();
         self.rack
             .issue(PLACE, &self.coins, &mut areas.secret, &mut areas.product)?;
@@ -96,7 +94,7 @@ impl Journey {
         Ok(())
     }
 
-    fn publish(&mut self, rt: &HostRuntime) -> Result<(), Stop> {
+    fn publish(&mut self, rt: &HostRuntime) -> Result<(), Stop<'static>> {
         let mut areas = Areas::new();
         self.rack.publish(
             PLACE,
@@ -111,7 +109,7 @@ impl Journey {
         Ok(())
     }
 
-    fn seal(&mut self, rt: &HostRuntime) -> Result<(), Stop> {
+    fn seal(&mut self, rt: &HostRuntime) -> Result<(), Stop<'static>> {
         let mut areas = Areas::new();
         seal(
             &self.set,
@@ -138,7 +136,7 @@ impl Journey {
     }
 
     // Answers how many symbols are out of band.
-    fn gauge(&mut self, rt: &HostRuntime) -> Result<usize, Stop> {
+    fn gauge(&mut self, rt: &HostRuntime) -> Result<usize, Stop<'static>> {
         let mut noise = vec![in rt.alloc(); 0i32; self.set.code.mu as usize]?;
         let mut areas = Areas::new();
         let seed = station_seed(self.message.as_slice(), self.key.as_slice());
@@ -154,14 +152,14 @@ impl Journey {
         println!(rt;
             " 5  gauge     the noise of {} symbols is from {} to {}, the bound is {}; out of band: {outside}",
             noise.len(),
-            least(noise.as_slice()),
-            greatest(noise.as_slice()),
+            noise.iter().copied().min().unwrap_or(0),
+            noise.iter().copied().max().unwrap_or(0),
             self.set.bound()
         )?;
         Ok(outside)
     }
 
-    fn raw_read(&mut self, rt: &HostRuntime) -> Result<Vec<u8>, Stop> {
+    fn raw_read(&mut self, rt: &HostRuntime) -> Result<Vec<u8>, Stop<'static>> {
         let mut raw = vec![in rt.alloc(); 0u8; self.set.code.mu as usize]?;
         let mut areas = Areas::new();
         raw_read(
@@ -184,7 +182,7 @@ impl Journey {
         Ok(raw)
     }
 
-    fn correct(&self, rt: &HostRuntime, raw: &[u8]) -> Result<(), Stop> {
+    fn correct(&self, rt: &HostRuntime, raw: &[u8]) -> Result<(), Stop<'static>> {
         let mut found = vec![in rt.alloc(); 0u8; self.message.len()]?;
         let outcome = correct_raw(&self.set, raw, found.as_mut_slice());
         let words = if outcome.is_ok() && found == self.message {
@@ -196,7 +194,7 @@ impl Journey {
         Ok(())
     }
 
-    fn open(&mut self, rt: &HostRuntime) -> Result<[u8; 32], Stop> {
+    fn open(&mut self, rt: &HostRuntime) -> Result<[u8; 32], Stop<'static>> {
         let mut secret = [0u8; 32];
         let mut areas = Areas::new();
         self.rack.open(
@@ -211,7 +209,7 @@ impl Journey {
         Ok(secret)
     }
 
-    fn compare(&self, rt: &HostRuntime, secret: &[u8; 32]) -> Result<(), Stop> {
+    fn compare(&self, rt: &HostRuntime, secret: &[u8; 32]) -> Result<(), Stop<'static>> {
         let words = if *secret == self.secret {
             "the secrets are equal"
         } else {
@@ -221,14 +219,14 @@ impl Journey {
         Ok(())
     }
 
-    fn retire(&mut self, rt: &HostRuntime) -> Result<(), Stop> {
+    fn retire(&mut self, rt: &HostRuntime) -> Result<(), Stop<'static>> {
         self.rack.retire(PLACE)?;
         println!(rt; "10  retire    place {PLACE} is empty")?;
         Ok(())
     }
 
     // Every action in its turn. Answers how many symbols were out of band.
-    fn travel(&mut self, rt: &HostRuntime) -> Result<usize, Stop> {
+    fn travel(&mut self, rt: &HostRuntime) -> Result<usize, Stop<'static>> {
         self.issue(rt)?;
         self.publish(rt)?;
         self.seal(rt)?;
@@ -242,24 +240,8 @@ impl Journey {
     }
 }
 
-fn least(numbers: &[i32]) -> i32 {
-    let mut low = i32::MAX;
-    for x in numbers {
-        low = low.min(*x);
-    }
-    low
-}
-
-fn greatest(numbers: &[i32]) -> i32 {
-    let mut high = i32::MIN;
-    for x in numbers {
-        high = high.max(*x);
-    }
-    high
-}
-
 // The code word of a message; none where it does not have κ/8 bytes.
-fn code_word(rt: &HostRuntime, set: &Set, message: &[u8]) -> Result<Vec<u8>, Stop> {
+fn code_word(rt: &HostRuntime, set: &Set, message: &[u8]) -> Result<Vec<u8>, Stop<'static>> {
     let mut word = vec![in rt.alloc(); 0u8; set.code.mu as usize]?;
     if message.len() == set.code.shape.kappa as usize / 8 {
         encode(&set.code, message, word.as_mut_slice());
@@ -268,21 +250,15 @@ fn code_word(rt: &HostRuntime, set: &Set, message: &[u8]) -> Result<Vec<u8>, Sto
 }
 
 fn wrong_bits(raw: &[u8], word: &[u8]) -> usize {
-    let mut wrong = 0usize;
-    for (bit, sealed) in raw.iter().zip(word.iter()) {
-        if *bit != *sealed {
-            wrong = wrong.saturating_add(1);
-        }
-    }
-    wrong
+    raw.iter()
+        .zip(word)
+        .filter(|(bit, sealed)| bit != sealed)
+        .count()
 }
 
 // The first action: the set.
-fn make_set(rt: &HostRuntime, listed: &Listed) -> Result<Set, Stop> {
-    let set = match Set::make(&listed.proposal) {
-        Ok(set) => set,
-        Err(fault) => return Err(Stop::Refused(Refusal { fault })),
-    };
+fn make_set(rt: &HostRuntime, listed: &Listed) -> Result<Set, Stop<'static>> {
+    let set = listed.make()?;
     let moduli = set.moduli;
     println!(rt;
         " 1  set       {}: n {}, h {}, q {}, p {}, t {}, kappa {}, f {}, mu {}",
@@ -300,7 +276,7 @@ fn make_set(rt: &HostRuntime, listed: &Listed) -> Result<Set, Stop> {
 }
 
 // What being below the line would cost the set.
-fn price(rt: &HostRuntime, set: &Set) -> Result<(), Stop> {
+fn price(rt: &HostRuntime, set: &Set) -> Result<(), Stop<'static>> {
     let Some(near) = neighbour(set) else {
         println!(rt; "     No other pb and tb put this n and h below the line.")?;
         return Ok(());
@@ -319,7 +295,7 @@ fn price(rt: &HostRuntime, set: &Set) -> Result<(), Stop> {
 }
 
 // The answer in steps, for a set and a parcel with so many symbols out of band.
-fn answer(rt: &HostRuntime, set: &Set, outside: usize) -> Result<(), Stop> {
+fn answer(rt: &HostRuntime, set: &Set, outside: usize) -> Result<(), Stop<'static>> {
     let quarter = set.moduli.q() / 4;
     let bound = set.bound();
     let f = set.code.shape.f;
@@ -348,7 +324,7 @@ fn answer(rt: &HostRuntime, set: &Set, outside: usize) -> Result<(), Stop> {
 }
 
 // The journey with the last of the built-in sets.
-pub fn run_journey(rt: &HostRuntime) -> Result<(), Stop> {
+pub fn run_journey(rt: &HostRuntime) -> Result<(), Stop<'static>> {
     println!(rt; "{JOURNEY}")?;
     let Some(listed) = LISTED.last() else {
         return Err(Stop::Usage);

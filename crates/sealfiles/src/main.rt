@@ -4,9 +4,8 @@
 mod commands;
 mod files;
 mod journey;
-mod listed;
 mod racks;
-mod report;
+mod shown;
 mod stop;
 mod texts;
 
@@ -15,103 +14,123 @@ use crate::commands::{
 };
 use crate::files::read_bytes;
 use crate::journey::run_journey;
-use crate::report::{show_card, show_rack, show_set, show_sets};
+use crate::racks::Site;
+use crate::shown::{show_card, show_rack, show_set, show_sets};
 use crate::stop::Stop;
 use crate::texts::HELP;
 use kit::new_source;
 use source::{Source, Tape};
-use std::env;
 use std::process::ExitCode;
 use std::rt::Env;
+use std::{env, io};
 
 // The commands that expand seeds, with the source that they draw from.
-fn expand<S: Source + Drop>(
+fn expand<'a, S: Source + Drop>(
     rt: &HostRuntime,
     command: &str,
-    words: &[String],
-    source: S,
-) -> Result<(), Stop> {
-    let mut source = source;
+    words: &[&'a str],
+    mut source: S,
+) -> Result<(), Stop<'a>> {
     match (command, words) {
-        ("issue", [rack, place, coins]) => issue(
+        ("issue", [path, place, coins]) => issue(
             rt,
-            source,
-            rack.as_str(),
-            place.as_str(),
-            coins.as_str(),
+            Site {
+                path,
+                place,
+                source,
+            },
+            coins,
         ),
-        ("publish", [rack, place, key]) => publish(
+        ("publish", [path, place, key]) => publish(
             rt,
-            source,
-            rack.as_str(),
-            place.as_str(),
-            key.as_str(),
+            Site {
+                path,
+                place,
+                source,
+            },
+            key,
         ),
-        ("open", [rack, place, parcel, secret]) => open(
+        ("open", [path, place, parcel, secret]) => open(
             rt,
-            source,
-            rack.as_str(),
-            place.as_str(),
-            parcel.as_str(),
-            secret.as_str(),
+            Site {
+                path,
+                place,
+                source,
+            },
+            parcel,
+            secret,
         ),
         ("seal", [set, key, message, parcel, secret]) => seal_message(
             rt,
             &mut source,
-            set.as_str(),
-            key.as_str(),
-            message.as_str(),
-            parcel.as_str(),
-            secret.as_str(),
+            set,
+            key,
+            message,
+            parcel,
+            secret,
         ),
-        ("raw", [set, seed, parcel, raw]) => read_raw(
-            rt,
-            &mut source,
-            set.as_str(),
-            seed.as_str(),
-            parcel.as_str(),
-            raw.as_str(),
-        ),
-        ("gauge", [set, seeds]) => gauge_seeds(rt, &mut source, set.as_str(), seeds.as_str()),
+        ("raw", [set, seed, parcel, raw]) => read_raw(rt, &mut source, set, seed, parcel, raw),
+        ("gauge", [set, seeds]) => gauge_seeds(rt, &mut source, set, seeds),
         _ => Err(Stop::Usage),
     }
 }
 
-// Does what a command and its words ask.
-fn obey(rt: &HostRuntime, command: &str, words: &[String]) -> Result<(), Stop> {
-    match (command, words) {
-        ("help", []) => Ok(println!(rt; "{HELP}")?),
-        ("sets", []) => show_sets(rt),
-        ("set", [path]) => show_set(rt, path.as_str()),
-        ("card", [serial, path]) => show_card(rt, serial.as_str(), path.as_str()),
-        ("new-rack", [set, rack]) => make_rack(rt, set.as_str(), rack.as_str()),
-        ("show", [rack]) => show_rack(rt, rack.as_str()),
-        ("retire", [rack, place]) => retire(rt, rack.as_str(), place.as_str()),
-        (_, [option, path, rest @ ..]) if option.as_str() == "--tape" => {
-            let bytes = read_bytes(rt, path.as_str())?;
+// Does what the words of the command line ask.
+fn obey<'a>(rt: &HostRuntime, words: &[&'a str]) -> Result<(), Stop<'a>> {
+    match words {
+        [] => run_journey(rt),
+        ["help"] => Ok(println!(rt; "{HELP}")?),
+        ["sets"] => show_sets(rt),
+        ["set", path] => show_set(rt, path),
+        ["card", serial, path] => show_card(rt, serial, path),
+        ["new-rack", set, rack] => make_rack(rt, set, rack),
+        ["show", rack] => show_rack(rt, rack),
+        ["retire", path, place] => retire(
+            rt,
+            Site {
+                path,
+                place,
+                source: new_source(),
+            },
+        ),
+        [command, "--tape", path, rest @ ..] => {
+            let bytes = read_bytes(rt, path)?;
             expand(rt, command, rest, Tape::new(bytes.as_slice()))
         }
-        _ => expand(rt, command, words, new_source()),
+        [command, rest @ ..] => expand(rt, command, rest, new_source()),
     }
 }
 
-fn run(rt: &HostRuntime) -> Result<(), Stop> {
+// The words of the command line after the program's own.
+fn read_words(rt: &HostRuntime) -> io::Result<Vec<String>> {
     let mut words = Vec::new(rt.alloc());
     for word in env::args(rt)?.skip(1) {
         words.push(word)?;
     }
-    match words.as_slice() {
-        [] => run_journey(rt),
-        [command, rest @ ..] => obey(rt, command.as_str(), rest),
-    }
+    Ok(words)
+}
+
+fn run<'a>(rt: &HostRuntime, words: &'a [String]) -> Result<(), Stop<'a>> {
+    let texts: Vec<&'a str> = words
+        .iter()
+        .map(|word| word.as_str())
+        .collect(rt.alloc())
+        .map_err(io::Error::from)?;
+    obey(rt, texts.as_slice())
+}
+
+// Tells what ended a run.
+fn fail(rt: &HostRuntime, stop: Stop) -> ExitCode {
+    let _ = eprintln!(rt; "{stop}");
+    ExitCode::FAILURE
 }
 
 fn main(rt: HostRuntime) -> ExitCode {
-    match run(&rt) {
-        Ok(()) => ExitCode::SUCCESS,
-        Err(e) => {
-            let _ = eprintln!(rt; "{e}");
-            ExitCode::FAILURE
-        }
+    match read_words(&rt) {
+        Ok(words) => match run(&rt, words.as_slice()) {
+            Ok(()) => ExitCode::SUCCESS,
+            Err(stop) => fail(&rt, stop),
+        },
+        Err(e) => fail(&rt, Stop::Io(e)),
     }
 }

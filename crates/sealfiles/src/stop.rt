@@ -1,5 +1,6 @@
 // What ends a run with status 1, and the line that tells it.
 use calls::Refusal as Denial;
+use params::proposal::SetFault;
 use rackfile::RackFault;
 use setfile::fault::Fault;
 use std::alloc::{AllocError, AllocFailed};
@@ -7,23 +8,25 @@ use std::{fmt, io};
 use words::{CallRefusal, Refusal};
 
 #[derive(Drop)]
-pub enum Stop {
+pub enum Stop<'a> {
     // A set that is not lawful.
-    Refused(Refusal),
+    Refused(SetFault),
     // A call that said no.
-    Denied(CallRefusal),
+    Denied(Denial),
     // A file that states no set.
-    BadSet(String, Fault),
+    BadSet(&'a str, Fault),
     // A file that holds no rack.
-    BadRack(String, RackFault),
+    BadRack(&'a str, RackFault),
     // A file that cannot be read or written.
-    NoFile(String, io::Error),
+    NoFile(&'a str, io::Error),
+    // An output for which no file beside it can be made.
+    NoneBeside(&'a str, io::Error),
     // Something that is no plain file stands where an output is to be written.
-    NotPlain(String),
+    NotPlain(&'a str),
     // A name that is given for an output and for something else.
-    SameName(String),
+    SameName(&'a str),
     // A word that is no number of a place.
-    NoPlace(String),
+    NoPlace(&'a str),
     // Words that are no command.
     Usage,
     // An argument that cannot be read, or a text that cannot be written.
@@ -32,38 +35,45 @@ pub enum Stop {
     Memory,
 }
 
-impl From<io::Error> for Stop {
-    fn from(e: io::Error) -> Stop {
+impl From<io::Error> for Stop<'_> {
+    fn from(e: io::Error) -> Self {
         Stop::Io(e)
     }
 }
 
-impl From<AllocError> for Stop {
-    fn from(_e: AllocError) -> Stop {
+impl From<AllocError> for Stop<'_> {
+    fn from(_e: AllocError) -> Self {
         Stop::Memory
     }
 }
 
-impl<T: Drop> From<AllocFailed<T>> for Stop {
-    fn from(_e: AllocFailed<T>) -> Stop {
+impl<T: Drop> From<AllocFailed<T>> for Stop<'_> {
+    fn from(_e: AllocFailed<T>) -> Self {
         Stop::Memory
     }
 }
 
-impl From<Denial> for Stop {
-    fn from(refusal: Denial) -> Stop {
-        Stop::Denied(CallRefusal { refusal })
+impl From<SetFault> for Stop<'_> {
+    fn from(fault: SetFault) -> Self {
+        Stop::Refused(fault)
     }
 }
 
-impl fmt::Display for Stop {
+impl From<Denial> for Stop<'_> {
+    fn from(refusal: Denial) -> Self {
+        Stop::Denied(refusal)
+    }
+}
+
+impl fmt::Display for Stop<'_> {
     fn fmt<W: fmt::Write>(&self, f: &mut fmt::Formatter<W>) -> fmt::Result {
         match self {
-            Stop::Refused(refusal) => write!(f, "{refusal}"),
-            Stop::Denied(refusal) => write!(f, "{refusal}"),
+            Stop::Refused(fault) => write!(f, "{}", Refusal { fault: *fault }),
+            Stop::Denied(refusal) => write!(f, "{}", CallRefusal { refusal: *refusal }),
             Stop::BadSet(path, fault) => write!(f, "{path}: {fault}"),
             Stop::BadRack(path, fault) => write!(f, "{path}: {fault}"),
             Stop::NoFile(path, e) => write!(f, "{path}: {e}"),
+            Stop::NoneBeside(path, e) => write!(f, "{path}.tmp: {e}"),
             Stop::NotPlain(path) => write!(
                 f,
                 "{path}: not a plain file, so nothing is written there"

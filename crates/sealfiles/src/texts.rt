@@ -35,17 +35,6 @@ A set file has a line for each field, in any order; # begins a comment, and spac
     lengths = 3, 4   its 2 f check lengths; may be left out where f = 0
     block = no       whether the first check goes by blocks, yes or no; may be left out for no";
 
-pub const RING: &str = "
-Keys and parcels are in bytes. Every set is taken in the cyclic ring as yet; Round5 takes its sets
-without a code, those whose names end in 0d, in the smaller ring.";
-
-pub const COSTS: &str = "
-What being below the line costs. For each set that is not: the set with the same n, h and code and
-the same qb - pb whose pb and tb put it below the line with the fewest bytes of key and parcel.";
-
-pub const NEIGHBOURS: &str = "
-No neighbour is a published set, and nothing here judges the security of one.";
-
 pub const JOURNEY: &str = "\
 A parcel's journey with a published set of Round5. The coins and the message are fixed bytes, so that
 this text is the same each time; real ones are random bytes that the caller brings.
