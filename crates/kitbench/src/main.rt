@@ -2,11 +2,11 @@
 // `CALL SET COUNT` makes one call so many times and prints a checksum; no words run every call a few times for each set.
 #![tactic(auto)]
 
-mod listed;
 mod pair;
+mod runs;
 
-use crate::listed::LISTED;
 use crate::pair::Pair;
+use crate::runs::LISTED;
 use anyhow::anyhow;
 use params::set::Set;
 use shake::Absorbing;
@@ -15,60 +15,58 @@ use std::env;
 // The runs of each set where no words are given.
 const RUNS: u32 = 4;
 
-fn publish_many(pair: &mut Pair, sum: &mut Absorbing, count: u32) -> anyhow::Result<()> {
-    for _ in 0..count {
-        pair.publish()?;
-    }
-    sum.absorb(pair.key.as_slice());
-    Ok(())
-}
-
-fn seal_many(pair: &mut Pair, sum: &mut Absorbing, count: u32) -> anyhow::Result<()> {
+// One call so many times.
+fn repeat<F: FnMut(&mut Pair, u32) -> anyhow::Result<()>>(
+    pair: &mut Pair,
+    count: u32,
+    mut call: F,
+) -> anyhow::Result<()>
+    requires { F.IsAlwaysCallable call }
+{
     for run in 0..count {
-        pair.write_message(run);
-        pair.seal()?;
-    }
-    sum.absorb(pair.parcel.as_slice());
-    sum.absorb(&pair.secret);
-    Ok(())
-}
-
-fn open_many(pair: &mut Pair, sum: &mut Absorbing, count: u32) -> anyhow::Result<()> {
-    for _ in 0..count {
-        pair.open()?;
-    }
-    sum.absorb(&pair.secret);
-    Ok(())
-}
-
-fn gauge_many(pair: &mut Pair, sum: &mut Absorbing, count: u32) -> anyhow::Result<()> {
-    for run in 0..count {
-        pair.gauge(run)?;
-    }
-    pair.absorb_noise(sum);
-    Ok(())
-}
-
-fn all_many(pair: &mut Pair, sum: &mut Absorbing, count: u32) -> anyhow::Result<()> {
-    for run in 0..count {
-        pair.run_all(run, sum)?;
+        call(pair, run)?;
     }
     Ok(())
 }
 
-// One call so many times, and the checksum of what the last of them wrote; `all` is every call, and the checksum of all that they wrote.
-fn repeat(rt: &HostRuntime, call: &str, name: &str, set: Set, count: u32) -> anyhow::Result<()> {
+// Makes the call of a name so many times, and takes up what the last of them wrote; `all` is every call, and all that they wrote.
+fn make_calls(pair: &mut Pair, sum: &mut Absorbing, call: &str, count: u32) -> anyhow::Result<()> {
+    match call {
+        "all" => repeat(pair, count, |pair, run| pair.run_all(run, sum))?,
+        "publish" => {
+            repeat(pair, count, |pair, _| pair.publish())?;
+            sum.absorb(pair.key.as_slice());
+        }
+        "seal" => {
+            repeat(pair, count, |pair, run| pair.seal_next(run))?;
+            sum.absorb(pair.parcel.as_slice());
+            sum.absorb(&pair.secret);
+        }
+        "open" => {
+            repeat(pair, count, |pair, _| pair.open())?;
+            sum.absorb(&pair.secret);
+        }
+        "gauge" => {
+            repeat(pair, count, |pair, run| pair.gauge(run))?;
+            pair.absorb_noise(sum);
+        }
+        _ => return Err(anyhow!("no such call")),
+    }
+    Ok(())
+}
+
+// The calls of a name with a set, and their checksum.
+fn show_calls(
+    rt: &HostRuntime,
+    call: &str,
+    name: &str,
+    set: Set,
+    count: u32,
+) -> anyhow::Result<()> {
     let mut pair = Pair::new(rt.alloc(), set)?;
     let mut sum = Absorbing::new();
     pair.prepare(0)?;
-    match call {
-        "all" => all_many(&mut pair, &mut sum, count)?,
-        "publish" => publish_many(&mut pair, &mut sum, count)?,
-        "seal" => seal_many(&mut pair, &mut sum, count)?,
-        "open" => open_many(&mut pair, &mut sum, count)?,
-        "gauge" => gauge_many(&mut pair, &mut sum, count)?,
-        _ => return Err(anyhow!("no such call")),
-    }
+    make_calls(&mut pair, &mut sum, call, count)?;
     let mut digest = [0u8; 16];
     sum.finish().squeeze(&mut digest);
     print!(rt; "{call} {name} {count} ")?;
@@ -80,27 +78,23 @@ fn repeat(rt: &HostRuntime, call: &str, name: &str, set: Set, count: u32) -> any
 }
 
 fn find_set(name: &str) -> anyhow::Result<Set> {
-    for listed in &LISTED {
-        if listed.name == name {
-            return match Set::make(&listed.proposal) {
-                Ok(set) => Ok(set),
-                Err(_) => Err(anyhow!("the set is not lawful")),
-            };
-        }
-    }
-    Err(anyhow!("no such set"))
+    let listed = LISTED
+        .iter()
+        .find(|listed| listed.name == name)
+        .ok_or_else(|| anyhow!("no such set"))?;
+    listed.make().map_err(|_| anyhow!("the set is not lawful"))
 }
 
 fn run(rt: &HostRuntime) -> anyhow::Result<()> {
     let mut words = env::args(rt)?.skip(1);
     let Some(call) = words.next() else {
         for listed in &LISTED {
-            repeat(rt, "all", listed.name, find_set(listed.name)?, RUNS)?;
+            show_calls(rt, "all", listed.name, find_set(listed.name)?, RUNS)?;
         }
         return Ok(());
     };
     match (words.next(), words.next()) {
-        (Some(name), Some(count)) => repeat(
+        (Some(name), Some(count)) => show_calls(
             rt,
             call.as_str(),
             name.as_str(),

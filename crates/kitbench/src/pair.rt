@@ -10,65 +10,37 @@ use shake::Absorbing;
 use sponge::Sponge;
 use std::alloc::{AllocError, Global};
 
-// What a seed is for. No two uses share a seed.
+// What a seed is for, as its last byte tells. No two uses share a seed.
 #[derive(Clone, Copy)]
 enum Use {
-    Polynomial,
-    Till,
-    Rejection,
-    Station,
+    Polynomial = 1,
+    Till = 2,
+    Rejection = 3,
+    Station = 4,
 }
 
-impl Use {
-    fn mark(self) -> u8 {
-        match self {
-            Use::Polynomial => 1,
-            Use::Till => 2,
-            Use::Rejection => 3,
-            Use::Station => 4,
-        }
-    }
-}
-
-// Byte k of a seed: the run's number, then zeros, then what the seed is for.
-fn seed_byte(run: u32, usage: Use, k: usize) -> u8 {
-    match k {
-        0 => (run % 256) as u8,
-        1 => ((run >> 8) % 256) as u8,
-        2 => ((run >> 16) % 256) as u8,
-        3 => (run >> 24) as u8,
-        31 => usage.mark(),
-        _ => 0,
-    }
-}
-
+// The run's number, then zeros, then what the seed is for.
 fn seed(run: u32, usage: Use) -> [u8; 32] {
     let mut bytes = [0u8; 32];
-    for k in 0..32 {
-        bytes[k] = seed_byte(run, usage, k);
-    }
+    bytes[..4].copy_from_slice(&run.to_le_bytes());
+    bytes[31] = usage as u8;
     bytes
 }
 
 // σ and the seed of s, then z or the seed of r.
 fn seeds(run: u32, third: Use) -> [u8; 96] {
     let mut bytes = [0u8; 96];
-    for k in 0..96 {
-        let usage = match k / 32 {
-            0 => Use::Polynomial,
-            1 => Use::Till,
-            _ => third,
-        };
-        bytes[k] = seed_byte(run, usage, k % 32);
-    }
+    bytes[..32].copy_from_slice(&seed(run, Use::Polynomial));
+    bytes[32..64].copy_from_slice(&seed(run, Use::Till));
+    bytes[64..].copy_from_slice(&seed(run, third));
     bytes
 }
 
 fn fill_message(message: &mut [u8], run: u32) {
-    let mut byte = (run.wrapping_mul(31).wrapping_add(5) % 256) as u8;
-    for i in 0..message.len() {
-        message[i] = byte;
-        byte = byte.wrapping_add(17);
+    let mut next = (run.wrapping_mul(31).wrapping_add(5) % 256) as u8;
+    for byte in message.iter_mut() {
+        *byte = next;
+        next = next.wrapping_add(17);
     }
 }
 
@@ -79,10 +51,7 @@ fn absorb_numbers(numbers: &[i32], sum: &mut Absorbing) {
 }
 
 fn accepted<T>(answer: Result<T, Refusal>) -> anyhow::Result<T> {
-    match answer {
-        Ok(value) => Ok(value),
-        Err(_) => Err(anyhow!("a call was refused")),
-    }
+    answer.map_err(|_| anyhow!("a call was refused"))
 }
 
 // A station and a till that share one set. The till's coins are at place 0.
@@ -121,7 +90,7 @@ impl Pair {
         })
     }
 
-    pub fn write_message(&mut self, run: u32) {
+    fn write_message(&mut self, run: u32) {
         fill_message(self.message.as_mut_slice(), run);
     }
 
@@ -136,7 +105,7 @@ impl Pair {
         )
     }
 
-    pub fn seal(&mut self) -> anyhow::Result<()> {
+    fn seal(&mut self) -> anyhow::Result<()> {
         accepted(seal(
             &self.set,
             &mut self.station,
@@ -147,6 +116,12 @@ impl Pair {
             &mut self.secret_area,
             &mut self.product_area,
         ))
+    }
+
+    // Seals the run's message.
+    pub fn seal_next(&mut self, run: u32) -> anyhow::Result<()> {
+        self.write_message(run);
+        self.seal()
     }
 
     pub fn open(&mut self) -> anyhow::Result<()> {
@@ -196,9 +171,8 @@ impl Pair {
                 &mut self.product_area,
             ),
         )?;
-        self.write_message(run);
         self.publish()?;
-        self.seal()
+        self.seal_next(run)
     }
 
     // Open and raw read of the parcel as it stands.

@@ -1,12 +1,6 @@
 // The sets that are run.
+use listed::Listed;
 use params::proposal::Proposal;
-
-// A set by its name.
-#[derive(Clone, Copy)]
-pub struct Listed {
-    pub name: &'static str,
-    pub proposal: Proposal<&'static [u16]>,
-}
 
 // The small set T, R5ND_5CCA_5d, and the neighbour of R5ND_5CCA_0d that is below the line; then, not timed, a set with so much noise that most
 // parcels need mending and a few cannot be mended, the set with the smallest moduli, and the one with the most of all but the code.
