@@ -1,30 +1,10 @@
 // What is told of a call that said no.
 ghost use Rattle.std.specs.Prelude.{◌≡◌, Some};
-ghost use Rattle.words.specs.Calls.{buffer_words, form_line, call_line};
+ghost use Rattle.words.specs.Calls.{buffer_words, form_words, call_words, form_line, call_line, line_of};
 
 use calls::{Buffer, Refusal};
 use std::fmt;
 use wire::WireFault;
-
-// The numbers of the refusals.
-const WRONG_BUFFER: u8 = 13;
-
-const WRONG_INPUT: u8 = 14;
-
-const WRONG_KIND: u8 = 15;
-
-const FILL_BIT: u8 = 16;
-
-const TOO_FEW: u8 = 17;
-
-const NO_SUCH_PLACE: u8 = 18;
-
-const EMPTY_PLACE: u8 = 19;
-
-const PLACE_IN_USE: u8 = 20;
-
-// The number of the input that is a key or a parcel.
-const FIRST: u8 = 1;
 
 /// A call that was refused, and why.
 #[derive(Clone, Copy)]
@@ -50,21 +30,48 @@ pub struct FormRefusal {
     pub fault: WireFault,
 }
 
-impl fmt::Display for FormRefusal {
-    ghost output = { λ x. Some (form_line x.fault) };
+// The sentence of a fault in the bytes of a key or parcel.
+fn form_sentence(fault: WireFault) -> &'static str
+    ensures { result.now ≡ form_words fault }
+{
+    match fault {
+        WireFault::Length(_) => "an input has a wrong length",
+        WireFault::Kind(_) => "the kind byte is wrong",
+        WireFault::Fill => "a fill bit is not zero",
+    }
+}
+
+// The sentence of a refusal.
+fn call_sentence(refusal: Refusal) -> &'static str
+    ensures { result.now ≡ call_words refusal }
+{
+    match refusal {
+        Refusal::NoSuchPlace(_) => "a rack has the places 0 to 3",
+        Refusal::EmptyPlace(_) => "the place is empty",
+        Refusal::PlaceInUse(_) => "the place is in use",
+        Refusal::WrongBuffer(buffer) => buffer_sentence(buffer),
+        Refusal::WrongInput(..) => "an input has a wrong length",
+        Refusal::Form(fault) => form_sentence(fault),
+        Refusal::Short(_) => "too few bytes are left",
+    }
+}
+
+// A line that tells a refusal: its number and values, and a sentence.
+#[derive(Clone, Copy)]
+struct Line<'a> {
+    numbers: &'a [u64],
+    sentence: &'static str,
+}
+
+impl fmt::Display for Line<'_> {
+    ghost output = { λ x. Some (line_of x.numbers.now x.sentence.now) };
 
     fn fmt<W: fmt::Write>(&self, f: &mut fmt::Formatter<W>) -> fmt::Result {
-        match self.fault {
-            WireFault::Length(had) => write!(
-                f,
-                "refused {WRONG_INPUT} {FIRST} {had}: an input has a wrong length"
-            ),
-            WireFault::Kind(byte) => write!(
-                f,
-                "refused {WRONG_KIND} {byte}: the kind byte is wrong"
-            ),
-            WireFault::Fill => write!(f, "refused {FILL_BIT}: a fill bit is not zero"),
+        f.write_str("refused")?;
+        for number in self.numbers {
+            write!(f, " {number}")?;
         }
+        write!(f, ": {}", self.sentence)
     }
 }
 
@@ -72,44 +79,20 @@ impl fmt::Display for CallRefusal {
     ghost output = { λ x. Some (call_line x.refusal) };
 
     fn fmt<W: fmt::Write>(&self, f: &mut fmt::Formatter<W>) -> fmt::Result {
-        match self.refusal {
-            Refusal::NoSuchPlace(place) => write!(
-                f,
-                "refused {NO_SUCH_PLACE} {place}: a rack has the places 0 to 3"
-            ),
-            Refusal::EmptyPlace(place) => write!(
-                f,
-                "refused {EMPTY_PLACE} {place}: the place is empty"
-            ),
-            Refusal::PlaceInUse(place) => write!(
-                f,
-                "refused {PLACE_IN_USE} {place}: the place is in use"
-            ),
-            Refusal::WrongBuffer(buffer) => {
-                let number = buffer.number();
-                let sentence = buffer_sentence(buffer);
-                write!(f, "refused {WRONG_BUFFER} {number}: {sentence}")
-            }
-            Refusal::WrongInput(input, had) => {
-                let number = input.number();
-                write!(
-                    f,
-                    "refused {WRONG_INPUT} {number} {had}: an input has a wrong length"
-                )
-            }
-            Refusal::Form(fault) => {
-                let told = FormRefusal { fault };
-                write!(f, "{told}")
-            }
-            Refusal::Short(fault) => {
-                let label = fault.label as u8;
-                let entry = fault.entry;
-                let bytes = fault.bytes;
-                write!(
-                    f,
-                    "refused {TOO_FEW} {label} {entry} {bytes}: too few bytes are left"
-                )
-            }
-        }
+        let told = self.refusal.numbers();
+        let line = Line {
+            numbers: &told.values[..told.count],
+            sentence: call_sentence(self.refusal),
+        };
+        write!(f, "{line}")
+    }
+}
+
+impl fmt::Display for FormRefusal {
+    ghost output = { λ x. Some (form_line x.fault) };
+
+    fn fmt<W: fmt::Write>(&self, f: &mut fmt::Formatter<W>) -> fmt::Result {
+        let refusal = Refusal::from(self.fault);
+        write!(f, "{}", CallRefusal { refusal })
     }
 }
