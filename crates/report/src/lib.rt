@@ -7,7 +7,7 @@ use neighbour::{cost_of, neighbour};
 use params::proposal::SetFault;
 use params::set::Set;
 use std::io;
-use words::{Refusal, verdict};
+use words::{Told, verdict};
 
 pub const RING: &str = "
 Keys and parcels are in bytes. Every set is taken in the cyclic ring as yet; Round5 takes its sets
@@ -142,7 +142,7 @@ pub fn print_refusals(rt: &HostRuntime) -> io::Result<()> {
         let name = listed.name;
         match listed.make() {
             Ok(_) => println!(rt; "{name:<33}made")?,
-            Err(fault) => println!(rt; "{name:<33}{}", Refusal { fault })?,
+            Err(fault) => println!(rt; "{name:<33}{}", Told { why: fault })?,
         }
     }
     Ok(())

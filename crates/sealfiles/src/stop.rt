@@ -5,7 +5,7 @@ use rackfile::RackFault;
 use setfile::fault::Fault;
 use std::alloc::{AllocError, AllocFailed};
 use std::{fmt, io};
-use words::{CallRefusal, Refusal};
+use words::Told;
 
 #[derive(Drop)]
 pub enum Stop<'a> {
@@ -68,8 +68,8 @@ impl From<Denial> for Stop<'_> {
 impl fmt::Display for Stop<'_> {
     fn fmt<W: fmt::Write>(&self, f: &mut fmt::Formatter<W>) -> fmt::Result {
         match self {
-            Stop::Refused(fault) => write!(f, "{}", Refusal { fault: *fault }),
-            Stop::Denied(refusal) => write!(f, "{}", CallRefusal { refusal: *refusal }),
+            Stop::Refused(fault) => write!(f, "{}", Told { why: *fault }),
+            Stop::Denied(refusal) => write!(f, "{}", Told { why: *refusal }),
             Stop::BadSet(path, fault) => write!(f, "{path}: {fault}"),
             Stop::BadRack(path, fault) => write!(f, "{path}: {fault}"),
             Stop::NoFile(path, e) => write!(f, "{path}: {e}"),

@@ -2,7 +2,7 @@
 use params::proposal::SetFault;
 use setfile::fault::Fault;
 use std::{fmt, io};
-use words::Refusal;
+use words::Told;
 
 #[derive(Drop)]
 pub enum Stop<'a> {
@@ -33,7 +33,7 @@ impl From<SetFault> for Stop<'_> {
 impl fmt::Display for Stop<'_> {
     fn fmt<W: fmt::Write>(&self, f: &mut fmt::Formatter<W>) -> fmt::Result {
         match self {
-            Stop::Refused(fault) => write!(f, "{}", Refusal { fault: *fault }),
+            Stop::Refused(fault) => write!(f, "{}", Told { why: *fault }),
             Stop::BadFile(path, fault) => write!(f, "{path}: {fault}"),
             Stop::NoFile(path, e) => write!(f, "{path}: {e}"),
             Stop::Usage => write!(f, "sealkit: no such command; try sealkit help"),

@@ -2,15 +2,10 @@
 ghost use Rattle.std.specs.Prelude.{◌≡◌, Some};
 ghost use Rattle.words.specs.Calls.{buffer_words, form_words, call_words, form_line, call_line, line_of};
 
+use crate::Told;
 use calls::{Buffer, Refusal};
 use std::fmt;
 use wire::WireFault;
-
-/// A call that was refused, and why.
-#[derive(Clone, Copy)]
-pub struct CallRefusal {
-    pub refusal: Refusal,
-}
 
 /// What is wrong with a buffer.
 pub fn buffer_sentence(buffer: Buffer) -> &'static str
@@ -22,12 +17,6 @@ pub fn buffer_sentence(buffer: Buffer) -> &'static str
         Buffer::SecretArea => "the secret area has a wrong length",
         Buffer::ProductArea => "the product area has a wrong length",
     }
-}
-
-/// A key or parcel that was refused for its bytes.
-#[derive(Clone, Copy)]
-pub struct FormRefusal {
-    pub fault: WireFault,
 }
 
 // The sentence of a fault in the bytes of a key or parcel.
@@ -75,24 +64,26 @@ impl fmt::Display for Line<'_> {
     }
 }
 
-impl fmt::Display for CallRefusal {
-    ghost output = { λ x. Some (call_line x.refusal) };
+// A call that was refused.
+impl fmt::Display for Told<Refusal> {
+    ghost output = { λ x. Some (call_line x.why) };
 
     fn fmt<W: fmt::Write>(&self, f: &mut fmt::Formatter<W>) -> fmt::Result {
-        let told = self.refusal.numbers();
+        let told = self.why.numbers();
         let line = Line {
             numbers: &told.values[..told.count],
-            sentence: call_sentence(self.refusal),
+            sentence: call_sentence(self.why),
         };
         write!(f, "{line}")
     }
 }
 
-impl fmt::Display for FormRefusal {
-    ghost output = { λ x. Some (form_line x.fault) };
+// A key or parcel that was refused for its bytes.
+impl fmt::Display for Told<WireFault> {
+    ghost output = { λ x. Some (form_line x.why) };
 
     fn fmt<W: fmt::Write>(&self, f: &mut fmt::Formatter<W>) -> fmt::Result {
-        let refusal = Refusal::from(self.fault);
-        write!(f, "{}", CallRefusal { refusal })
+        let why = Refusal::from(self.why);
+        write!(f, "{}", Told { why })
     }
 }

@@ -6,15 +6,15 @@ mod call;
 ghost use Rattle.std.specs.Prelude.{◌≡◌, Some};
 ghost use Rattle.words.specs.Told.{rule_words, refusal_line, Verdict};
 
-pub use call::{CallRefusal, FormRefusal, buffer_sentence};
+pub use call::buffer_sentence;
 use params::proposal::{Rule, SetFault};
 use params::set::Set;
 use std::fmt;
 
-// A set that was not made, and why.
+// Why something was refused, as it is told: of a set, a call, or the bytes of a key or parcel.
 #[derive(Clone, Copy)]
-pub struct Refusal {
-    pub fault: SetFault,
+pub struct Told<F> {
+    pub why: F,
 }
 
 // What a rule asks.
@@ -35,22 +35,18 @@ pub fn rule_sentence(rule: Rule) -> &'static str
     }
 }
 
-impl fmt::Display for Refusal {
-    ghost output = { λ x. Some (refusal_line x.fault) };
+// A set that was not made.
+impl fmt::Display for Told<SetFault> {
+    ghost output = { λ x. Some (refusal_line x.why) };
 
     fn fmt<W: fmt::Write>(&self, f: &mut fmt::Formatter<W>) -> fmt::Result {
-        match self.fault {
-            SetFault::Broken(rule) => {
-                let number = rule.number();
-                let sentence = rule_sentence(rule);
-                write!(f, "refused 11 {number}: {sentence}")
-            }
-            SetFault::Shared(a, b) => {
-                write!(
-                    f,
-                    "refused 12 {a} {b}: these two payload positions share two checks"
-                )
-            }
+        let [number, a, b] = self.why.numbers();
+        match self.why {
+            SetFault::Broken(rule) => write!(f, "refused {number} {a}: {}", rule_sentence(rule)),
+            SetFault::Shared(..) => write!(
+                f,
+                "refused {number} {a} {b}: these two payload positions share two checks"
+            ),
         }
     }
 }
