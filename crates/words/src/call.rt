@@ -71,7 +71,7 @@ impl fmt::Display for Told<Refusal> {
     fn fmt<W: fmt::Write>(&self, f: &mut fmt::Formatter<W>) -> fmt::Result {
         let told = self.why.numbers();
         let line = Line {
-            numbers: &told.values[..told.count],
+            numbers: told.as_slice(),
             sentence: call_sentence(self.why),
         };
         write!(f, "{line}")
