@@ -38,12 +38,11 @@ def functions(lines):
         j = i
         while j < len(lines) and not re.match(rf"^{indent}\{{\}}?$|^.*[^ ] \{{\}}?$|^.*;$", lines[j]):
             j += 1
-        # a contract's clauses end in a brace too: the body begins at a line that is or ends in an opening one
-        k = j
-        if j < len(lines) and lines[j].endswith("{}"):
+        if j < len(lines) and lines[j].endswith(("{}", ";")):
             found.append((name, i + 1, lines[i : j + 1], []))
             continue
-        while k < len(lines) and lines[k] != indent + "}" and not lines[k].endswith("{}") and not lines[k].endswith(";"):
+        k = j
+        while k < len(lines) and lines[k] != indent + "}":
             k += 1
         found.append((name, i + 1, lines[i : j + 1], lines[j + 1 : k]))
     return found
@@ -91,38 +90,33 @@ def point1(root):
 
 
 def point2(root):
-    """Functions of one shape (five lines or more in their bodies, or the same contract), and structs that share four fields."""
-    bodies = collections.defaultdict(set)
-    structs = []
+    """Groups of functions or impls of one shape (a short body counts with its contract), and structs that share four fields or more."""
+    groups = collections.defaultdict(set)
+    structs = {}
     for path, lines in sources(root):
-        for name, line, header, body in functions(lines):
-            if len(body) >= 3:
-                bodies[shape(body)].add(f"{path}:{line}: {name}")
-            elif body:
-                bodies[shape(header + body)].add(f"{path}:{line}: {name}")
+        inside = set()
         for i, line in enumerate(lines):
             if line.startswith("impl") and line.endswith("{") and " for " in line:
                 end = next(k for k in range(i, len(lines)) if lines[k] == "}")
-                bodies[shape(lines[i:end])].add(f"{path}:{i + 1}: {line[:-2]}")
+                groups[shape(lines[i:end])].add(f"{path}:{i + 1} {line[:-2]}")
+                inside.update(range(i, end))
+        for name, line, header, body in functions(lines):
+            if line - 1 not in inside and body:
+                text = body if len(body) >= 3 else header + body
+                groups[shape(text)].add(f"{path}:{line} {name}")
+        for i, line in enumerate(lines):
             m = re.match(r"^(?:pub(?:\(crate\))? )?struct (\w+)", line)
             if m and line.endswith("{"):
-                fields = set()
-                for after in lines[i + 1 :]:
-                    if after == "}":
-                        break
-                    f = re.match(r"^    (?:pub(?:\(crate\))? )?(\w+): ", after)
-                    if f:
-                        fields.add(f.group(1))
-                structs.append((f"{path}:{i + 1}: {m.group(1)}", fields))
-    for same in bodies.values():
+                end = next(k for k in range(i, len(lines)) if lines[k] == "}")
+                fields = re.findall(r"^    (?:pub(?:\(crate\))? )?(\w+): ", "\n".join(lines[i:end]), re.M)
+                structs[f"{path}:{i + 1} {m.group(1)}"] = set(fields)
+    for same in groups.values():
         if len(same) > 1:
-            for place in sorted(same):
-                yield f"{place} (one of {len(same)} of this shape)"
-    for i, (place, fields) in enumerate(structs):
-        for j, (other, others) in enumerate(structs):
-            if i != j and len(fields & others) >= 4:
-                yield f"{place} shares {len(fields & others)} fields with {other}"
-                break
+            yield ", ".join(sorted(same))
+    for place, fields in structs.items():
+        like = [other for other, others in structs.items() if other != place and len(fields & others) >= 4]
+        if like and all(place < other for other in like):
+            yield ", ".join([place] + like)
 
 
 def point3(root):
