@@ -19,13 +19,6 @@ fn spaced(heap: Global, numbers: &[u16]) -> Result<String, AllocError>
     Ok(text)
 }
 
-// Whether the first check goes by blocks.
-fn mark_of(block: bool) -> &'static str
-    ensures { result.now ≡ mark block }
-{
-    if block { ", blocks" } else { "" }
-}
-
 // The check lengths of a code and its mark, or nothing where it has no checks.
 fn checks_text(heap: Global, code: &Code) -> Result<String, AllocError>
     ensures { IfOk result (λ s. string_bytes s ≡ checks_text code.now.shape) }
@@ -35,7 +28,7 @@ fn checks_text(heap: Global, code: &Code) -> Result<String, AllocError>
         return Ok(String::new(heap));
     }
     let lengths = spaced(heap, &code.shape.lengths[0..2 * f as usize])?;
-    let mark = mark_of(code.shape.block);
+    let mark = if code.shape.block { ", blocks" } else { "" };
     format!(in heap; ", lengths{lengths}{mark}")
 }
 
