@@ -50,6 +50,7 @@ impl Moduli {
 
 impl Set {
     // The bound: q/(2·t) + h·q/p.
+    #[tactic(auto, using(crate::proofs::Lines::weight_times))]
     pub fn bound(&self) -> u32
         ensures { result ≡ bound self.now }
     {
@@ -57,6 +58,7 @@ impl Set {
     }
 
     // The side of the line that grows with the noise: 2·p + 4·h·t.
+    #[tactic(auto, using(crate::proofs::Lines::weight_times))]
     pub fn line_left(&self) -> u32
         ensures { result ≡ line_left self.now }
     {
@@ -71,6 +73,7 @@ impl Set {
     }
 
     // Whether the set is below the line, which is exactly where its bound is below a quarter of q.
+    #[tactic(auto, using(crate::proofs::Lines::quarter_from_line, crate::proofs::Lines::line_from_quarter))]
     pub fn below_line(&self) -> bool
         ensures line { Decides result (BelowLine self.now) }
         ensures quarter { Decides result (bound self.now < q self.now.moduli / 4) }

@@ -9,9 +9,8 @@ pub lawful_moduli-moduli-requires : goal.lawful_moduli-moduli-requires
 lawful_moduli-moduli-requires c =
     let k = c.in_ok-layout.ensures.rules in record { exponents = k Exponents; balance = k Balance }
 
-pub lawful_code-requires : goal.lawful_code-requires
-lawful_code-requires c =
-    let j = c.in_ok-layout.ensures in record { count = j.count; short = count_short _ _ _ j }
+pub lawful_code-requires-clause-short : goal.lawful_code-requires-clause-short
+lawful_code-requires-clause-short c = count_short _ _ _ c.in_ok-layout.ensures
 
 pub invariant_of-result : goal.invariant_of-result
 invariant_of-result c =
