@@ -6,6 +6,7 @@ ghost use Rattle.params.specs.Sizes.{q, p, t, bound, line_left, line_right, Belo
 use crate::moduli::Moduli;
 use crate::set::Set;
 
+// Kept: q, p and t are the words of the field, and a line each; one function of an exponent would say no more in less.
 impl Moduli {
     // The modulus before rounding.
     pub fn q(&self) -> u32

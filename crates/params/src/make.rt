@@ -14,6 +14,7 @@ use crate::proposal::{Proposal, Rule, SetFault};
 use crate::rules::judge;
 use crate::set::Set;
 
+// Kept: faults are kept whole and turned by From.
 impl From<Rule> for SetFault {
     ghost from_gives = { λ rule fault. fault ≡ Broken rule };
 

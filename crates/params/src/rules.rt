@@ -1,9 +1,9 @@
 // The rules of a set, tried in their order.
-ghost use Rattle.std.specs.Prelude.{◌≡◌, ℕ, ◌-◌, ◌<◌, ◌≤◌, ◌++◌, length, replicate, true, false, Decides, MatchResult, slice_index};
+ghost use Rattle.std.specs.Prelude.{◌≡◌, ℕ, ◌-◌, ◌%◌, ◌<◌, ◌≤◌, ◌++◌, length, replicate, true, false, Decides, MatchResult, slice_index};
 ghost use Rattle.params.specs.Limits.{most_kappa, most_flips, most_checks};
 ghost use Rattle.params.specs.Checks.{LengthsFit, MarkFits, symbol_count};
 ghost use Rattle.params.specs.Rules.{Judged, Keeps, KeepsBelow, LengthFits, LowestBroken, refusal_numbers, rule_number, shape_of};
-ghost use Rattle.params.specs.declared.proposal.Rule.TheVariants.{RingSize, Weight, Exponents, Balance, Payload, Lengths};
+ghost use Rattle.params.specs.declared.proposal.Rule.TheVariants.{Exponents, Balance, Lengths};
 
 use crate::blocks::Layout;
 use crate::proposal::{Proposal, Rule, SetFault};
@@ -32,16 +32,12 @@ impl SetFault {
     }
 }
 
-fn keeps_ring_size(p: &Proposal<&[u16]>) -> bool
-    ensures { Decides result (Keeps RingSize p.now) }
+// Whether a number is a multiple of `step` from `least` to `most`.
+fn is_multiple(x: u16, step: u16, least: u16, most: u16) -> bool
+    requires { 0 < step }
+    ensures { Decides result ((least ≤ x) × (x ≤ most) × (x % step ≡ 0)) }
 {
-    p.n >= 8 && p.n <= MOST_N && p.n % 2 == 0
-}
-
-fn keeps_weight(p: &Proposal<&[u16]>) -> bool
-    ensures { Decides result (Keeps Weight p.now) }
-{
-    p.h >= 2 && p.h <= p.n && p.h % 2 == 0
+    x >= least && x <= most && x % step == 0
 }
 
 fn keeps_exponents(p: &Proposal<&[u16]>) -> bool
@@ -54,12 +50,6 @@ fn keeps_balance(p: &Proposal<&[u16]>) -> bool
     ensures { Decides result (Keeps Balance p.now) }
 {
     p.tb as u32 + p.qb as u32 <= 2 * p.pb as u32
-}
-
-fn keeps_payload(p: &Proposal<&[u16]>) -> bool
-    ensures { Decides result (Keeps Payload p.now) }
-{
-    p.kappa >= 8 && p.kappa <= MOST_KAPPA && p.kappa % 8 == 0
 }
 
 // Whether each length is from 1 to the longest.
@@ -119,11 +109,11 @@ fn ask(kept: bool, rule: Rule) -> Result<(), Rule>
 fn judge_numbers(p: &Proposal<&[u16]>) -> Result<(), Rule>
     ensures { MatchResult result (λ _. KeepsBelow 7 p.now) (λ k. LowestBroken k p.now) }
 {
-    ask(keeps_ring_size(p), Rule::RingSize)?;
-    ask(keeps_weight(p), Rule::Weight)?;
+    ask(is_multiple(p.n, 2, 8, MOST_N), Rule::RingSize)?;
+    ask(is_multiple(p.h, 2, 2, p.n), Rule::Weight)?;
     ask(keeps_exponents(p), Rule::Exponents)?;
     ask(keeps_balance(p), Rule::Balance)?;
-    ask(keeps_payload(p), Rule::Payload)?;
+    ask(is_multiple(p.kappa, 8, 8, MOST_KAPPA), Rule::Payload)?;
     ask(p.f <= MOST_FLIPS, Rule::Flips)
 }
 
