@@ -5,18 +5,19 @@ use Rattle.calls.specs.Chains.{Book}
 use Rattle.keyseal.specs.declared.origin.Origin.{Origin}
 use Rattle.keyseal.specs.declared.origin.Origin.TheVariants.{Taped, Other}
 
-abbrev pub origin_book : {S : Type 0} → (S → Book) → Origin S → Book
-origin_book book (Taped t) = λ _ _. t.bytes.now
-origin_book book (Other s) = book s
+abbrev pub origin_book : {T S : Type 0} → (T → Book) → (S → Book) → Origin T S → Book
+origin_book tape other (Taped t) = tape t
+origin_book tape other (Other s) = other s
 
-abbrev pub origin_rest : {S : Type 0} → (S → List ℕ) → Origin S → List ℕ
-origin_rest rest (Taped t) = t.rest.now
-origin_rest rest (Other s) = rest s
+abbrev pub origin_rest : {T S : Type 0} → (T → List ℕ) → (S → List ℕ) → Origin T S → List ℕ
+origin_rest tape other (Taped t) = tape t
+origin_rest tape other (Other s) = other s
 
-pub origin_fits : {S : Type 0} (book : S → Book) → ((s : S) (label : ℕ) (seed : List ℕ) → length (book s label seed) < 2 ^ 64)
-    → (s : Origin S) (label : ℕ) (seed : List ℕ) → length (origin_book book s label seed) < 2 ^ 64
-origin_fits book fits (Taped t) = λ _ _. t.within.1
-origin_fits book fits (Other s) = fits s
+pub origin_fits : {T S : Type 0} (tape : T → Book) (other : S → Book) → ((t : T) (label : ℕ) (seed : List ℕ) → length (tape t label seed) < 2 ^ 64)
+    → ((s : S) (label : ℕ) (seed : List ℕ) → length (other s label seed) < 2 ^ 64)
+    → (o : Origin T S) (label : ℕ) (seed : List ℕ) → length (origin_book tape other o label seed) < 2 ^ 64
+origin_fits tape other f g (Taped t) = f t
+origin_fits tape other f g (Other s) = g s
 
 -- the book of a call: the tape's bytes for every label and seed, or the sponge's book
 abbrev pub book_of : List ℕ → Bool → Book

@@ -6,19 +6,19 @@ ghost use Rattle.keyseal.specs.Origin.{origin_book, origin_rest, origin_fits, bo
 use kit::{KitSource, new_source};
 use source::{Source, SourceFault, Tape};
 
-/// The source that gives the bytes: a tape, or another.
+/// One of two sources: a tape, or another.
 #[derive(Drop)]
-pub enum Origin<'a, S> {
-    Taped(Tape<'a>),
+pub enum Origin<T, S> {
+    Taped(T),
     Other(S),
 }
 
-impl<'a, S: Source> Source for Origin<'a, S> {
-    ghost book = { λ s. origin_book S.Source.book s };
+impl<T: Source, S: Source> Source for Origin<T, S> {
+    ghost book = { λ s. origin_book T.Source.book S.Source.book s };
 
-    ghost rest = { λ s. origin_rest S.Source.rest s };
+    ghost rest = { λ s. origin_rest T.Source.rest S.Source.rest s };
 
-    ghost fits = { λ s. origin_fits S.Source.book S.Source.fits s };
+    ghost fits = { λ s. origin_fits T.Source.book S.Source.book T.Source.fits S.Source.fits s };
 
     fn start(&mut self, label: u8, seed: &[u8; 32]) {
         match self {
@@ -43,8 +43,8 @@ impl<'a, S: Source> Source for Origin<'a, S> {
 }
 
 // The tape, or the sponge as stations and tills use it.
-pub(crate) fn bytes_from(tape: &[u8], taped: bool) -> Origin<'_, KitSource>
-    ensures { origin_book (λ _. sponge_book) result ≡ book_of tape.now taped }
+pub(crate) fn bytes_from(tape: &[u8], taped: bool) -> Origin<Tape<'_>, KitSource>
+    ensures { origin_book (λ t _ _. t.bytes.now) (λ _. sponge_book) result ≡ book_of tape.now taped }
 {
     if taped {
         Origin::Taped(Tape::new(tape))

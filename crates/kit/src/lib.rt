@@ -1,9 +1,8 @@
 // The product put together: the one place that chooses the source of station and till.
 #![tactic(auto)]
 
-ghost use Rattle.std.specs.Prelude.{◌≡◌, [], ◌++◌, Decides};
+ghost use Rattle.std.specs.Prelude.{◌≡◌, [], ◌++◌, drop, Decides};
 ghost use Rattle.params.specs.Sizes.{BelowLine};
-ghost use Rattle.fetch.specs.Held.{held};
 ghost use Rattle.sponge.specs.Book.{sponge_book};
 ghost use Rattle.sponge.specs.Remaining.{remaining};
 ghost use Rattle.rack.specs.Calls.{all_empty};
@@ -19,7 +18,7 @@ pub type KitSource = Fetch<Sponge>;
 
 /// A source with nothing to come yet.
 pub fn new_source() -> KitSource
-    ensures { held result.from result.upto result.bytes ++ remaining result.source ≡ [] }
+    ensures { drop result.from result.bytes ++ remaining result.source ≡ [] }
 {
     Fetch::new(Sponge::new())
 }
