@@ -1,52 +1,56 @@
--- What adding a payload to its checks makes of a word.
-use Rattle.std.proofs.Common.{◌≡◌, ℕ, ◌+◌, ◌-◌, ◌*◌, ◌%◌, ◌<◌, ◌≤◌, cond, leb, List, length, get_or, sym, ◌∙◌, ap₂, arith}
-use Rattle.params.specs.Checks.{check_start, place_of, LengthsFit, MarkFits}
+-- What adding a payload to its checks makes of the check bits of a word.
+use Rattle.std.proofs.Common.{◌≡◌, ℕ, ◌+◌, ◌-◌, ◌*◌, ◌%◌, ◌<◌, ◌≤◌, cond, leb, List, ◌++◌, length, get_or, sym, ap, ◌∙◌, ap₂, arith}
+use Rattle.std.proofs.lemmas.List.{length-append, get_or_append_left, get_or-append-add}
+use Rattle.params.specs.Checks.{check_length, check_start, place_of, LengthsFit, MarkFits}
 use Rattle.params.specs.declared.shape.Shape.{Shape}
 use Rattle.params.specs.declared.code.Code.{Code}
 use Rattle.params.proofs.Sums.{sum_same}
 use Rattle.params.proofs.Places.{place_inside}
-use Rattle.code.specs.Words.{FirstBits, Bits, Agree, message_bit, parity, PayloadAdded, code_word}
+use Rattle.code.specs.Words.{FirstBits, Bits, Agree, message_bit, parity, check_offset, PayloadAdded, code_word}
 use Rattle.code.specs.Correcting.{differs, differing, corrected_bit}
 use Rattle.code.specs.Compared.{Compared, votes, decided_bit}
 use Rattle.code.proofs.Bits.{bit_small, differ_odd}
-use Rattle.code.proofs.Words.{check_within, each_place, parity_same, code_word_only}
+use Rattle.code.proofs.Words.{check_within, each_check, parity_same, code_word_only}
 
--- the payload of a message with zeros for checks, w, becomes its code word u once it is added to its checks
-pub encoded : (c : Code) (m w u : List ℕ) → length u ≡ c.mu
-    → ((k : ℕ) → k < c.shape.kappa → get_or w k 0 ≡ message_bit m k)
-    → ((i : ℕ) → c.shape.kappa ≤ i → get_or w i 0 ≡ 0)
-    → Agree c.shape.kappa u w → PayloadAdded c.shape (2 * c.shape.f) w u
-    → u ≡ code_word c.shape m
-encoded c m w u long payload clear front back =
-    let s = c.shape in
-    code_word_only s m u (long ∙ c.count) (λ k h. front k h ∙ payload k h) (λ j l hj hl.
-    omega (arith, back j l hj hl, clear (check_start s j + l) (omega arith), parity_same s u w front j l))
+-- the payload p of a message, and zeros for checks, c: these become the checks d of its code word once p is added to them
+pub encoded : (k : Code) (m p c d : List ℕ) → length p ≡ k.shape.kappa → length (p ++ d) ≡ k.mu
+    → ((i : ℕ) → i < k.shape.kappa → get_or p i 0 ≡ message_bit m i)
+    → ((i : ℕ) → get_or c i 0 ≡ 0)
+    → PayloadAdded k.shape (2 * k.shape.f) p c d
+    → p ++ d ≡ code_word k.shape m
+encoded k m p c d size long payload clear back =
+    let s = k.shape in
+    let front : Agree s.kappa (p ++ d) p = λ i h. get_or_append_left p d 0 i (omega arith) in
+    code_word_only s m (p ++ d) (long ∙ k.count) (λ i h. front i h ∙ payload i h) (λ j l hj hl.
+    let at : check_start s j + l ≡ length p + (check_offset s j + l) = omega arith in
+    ap (λ x. get_or (p ++ d) x 0) at ∙ get_or-append-add p d (check_offset s j + l) 0
+    ∙ omega (arith, back j l hj hl, clear (check_offset s j + l))
+    ∙ sym (parity_same s (p ++ d) p front j l))
 
--- a copy w of the received word v becomes u once its payload is added to its checks
-pub compared : (c : Code) (v w u : List ℕ) → length v ≡ c.mu → Bits v → Agree c.mu w v
-    → Agree c.shape.kappa u w → PayloadAdded c.shape (2 * c.shape.f) w u
-    → Compared c.shape v u
-compared c v w u long bits copy front back =
-    let s = c.shape in
-    let same = λ (k : ℕ) (h : k < s.kappa). copy k (omega (arith, c.count)) in
+-- the payload p and the check bits c of a received word: c becomes d once p is added to it
+pub compared : (k : Code) (v p c d : List ℕ) → length v ≡ k.mu → Bits v → Agree k.shape.kappa p v
+    → ((i : ℕ) → k.shape.kappa + i < k.mu → get_or c i 0 ≡ get_or v (k.shape.kappa + i) 0)
+    → PayloadAdded k.shape (2 * k.shape.f) p c d
+    → Compared k.shape v p d
+compared k v p c d long bits front copy back =
+    let s = k.shape in
     record {
-      payload = λ k h. front k h ∙ same k h;
-      checks = λ j l hj hl. let at = check_start s j + l in
-          let inside : at < c.mu = omega (arith, c.count, check_within s j (2 * s.f) hj) in
-          back j l hj hl ∙ ap₂ (λ x y. (x + y) % 2) (copy at inside) (parity_same s w v same j l)
-          ∙ sym (differ_odd (get_or v at 0) (parity s v j l) (bits at (omega arith)) (omega arith));
+      payload = front;
+      checks = λ j l hj hl.
+          let o = check_offset s j + l in
+          let inside : s.kappa + o < k.mu = omega (arith, k.count, check_within s j (2 * s.f) hj) in
+          let at : s.kappa + o ≡ check_start s j + l = omega arith in
+          back j l hj hl ∙ ap₂ (λ x y. (x + y) % 2) (copy o inside ∙ ap (λ x. get_or v x 0) at) (parity_same s p v front j l)
+          ∙ sym (differ_odd (get_or v (check_start s j + l) 0) (parity s v j l) (bits (check_start s j + l) (omega arith)) (omega arith));
     }
 
--- a compared word holds bits
-pub compared_bits : (c : Code) (v u : List ℕ) → length v ≡ c.mu → Bits v → Compared c.shape v u → FirstBits c.mu u
-compared_bits c v u long bits is i h =
-    each_place c.shape (λ x. get_or u x 0 < 2)
-    (λ k hk. omega (arith, is.payload k hk, bits k (omega (arith, c.count))))
-    (λ j l hj hl. omega (arith, is.checks j l hj hl, bit_small (differs c.shape v j l)))
-    i (omega (arith, c.count))
+-- compared check bits are bits
+pub compared_bits : (s : Shape) (v p c : List ℕ) → Compared s v p c → FirstBits (check_offset s (2 * s.f)) c
+compared_bits s v p c is i h =
+    each_check s (2 * s.f) (λ x. get_or c x 0 < 2) (λ j l hj hl. omega (arith, is.checks j l hj hl, bit_small (differs s v j l))) i h
 
--- and decides as the received word is corrected
-pub decided : (s : Shape) → LengthsFit s → MarkFits s → (v u : List ℕ) → Compared s v u → (k : ℕ) → k < s.kappa → decided_bit s u k ≡ corrected_bit s v k
-decided s fit mark v u is k h =
-    let counted : votes s u k ≡ differing s v k = sum_same (2 * s.f) _ _ (λ j lt. is.checks j (place_of s j k) lt (place_inside s fit mark j k lt h)) in
+-- a compared word decides as the received word is corrected
+pub decided : (s : Shape) → LengthsFit s → MarkFits s → (v p c : List ℕ) → Compared s v p c → (k : ℕ) → k < s.kappa → decided_bit s p c k ≡ corrected_bit s v k
+decided s fit mark v p c is k h =
+    let counted : votes s c k ≡ differing s v k = sum_same (2 * s.f) _ _ (λ j lt. is.checks j (place_of s j k) lt (place_inside s fit mark j k lt h)) in
     ap₂ (λ n x. cond (leb (s.f + 1) n) (1 - x) x) counted (is.payload k h)

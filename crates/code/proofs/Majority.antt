@@ -72,8 +72,8 @@ module _ (c : Code) (w v : List ℕ) (long_w : length w ≡ c.mu) (long_v : leng
       let holds = checked j (place_of s j k) lt (place_inside s c.lengths c.mark j k lt hk) in
       omega (
         arith,
-        differ_odd (get_or v at 0) (parity s v j (place_of s j k)) (bits_v at (omega (arith, bit_inside c j k lt hk))) (omega arith),
-        flipped at (bit_inside c j k lt hk),
+        differ_odd (get_or v at 0) (parity s v j (place_of s j k)) (bits_v at (omega (arith, c.count, bit_inside c j k lt hk))) (omega arith),
+        flipped at (omega (arith, c.count, bit_inside c j k lt hk)),
         holds,
         sum_parity s.kappa (λ i. get_or v i 0 * S i) (λ i. get_or w i 0 * S i) (λ i. flip w v i * S i)
             (λ i h. flipped_term (get_or w i 0) (get_or v i 0) (flip w v i) (with_k j i) (flipped i (omega arith))),

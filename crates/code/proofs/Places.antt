@@ -2,15 +2,16 @@
 use Rattle.std.proofs.Common.{◌≡◌, ℕ, ◌+◌, ◌*◌, ◌/◌, ◌%◌, ◌<◌, false, sym, ap, ◌∙◌, mod-eq_of_lt, arith}
 use native.Mathlib.Nat.{mod-add-mod, mod_self}
 use Rattle.std.proofs.lemmas.Bool.{cond-false}
-use Rattle.params.specs.Checks.{check_length, check_start, in_blocks, block_length, place_of}
+use Rattle.params.specs.Checks.{check_length, in_blocks, block_length, place_of}
 use Rattle.params.specs.declared.shape.Shape.{Shape}
 use Rattle.params.specs.declared.code.Code.{Code}
 use Rattle.params.proofs.Places.{place_inside}
+use Rattle.code.specs.Words.{check_offset}
 use Rattle.code.proofs.Words.{check_within}
 
--- where position k has its bit of check j, a word has a symbol
-pub bit_inside : (c : Code) (j k : ℕ) → j < 2 * c.shape.f → k < c.shape.kappa → check_start c.shape j + place_of c.shape j k < c.mu
-bit_inside c j k hj hk = omega (arith, c.count, check_within c.shape j (2 * c.shape.f) hj, place_inside c.shape c.lengths c.mark j k hj hk)
+-- where position k has its bit of check j, a word has a check bit
+pub bit_inside : (c : Code) (j k : ℕ) → j < 2 * c.shape.f → k < c.shape.kappa → check_offset c.shape j + place_of c.shape j k < check_offset c.shape (2 * c.shape.f)
+bit_inside c j k hj hk = omega (arith, check_within c.shape j (2 * c.shape.f) hj, place_inside c.shape c.lengths c.mark j k hj hk)
 
 -- the next place of a check that does not go by blocks
 module _ (s : Shape) (j k : ℕ) (plain : in_blocks s j ≡ false) where

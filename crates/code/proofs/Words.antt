@@ -7,7 +7,7 @@ use Rattle.params.specs.Sums.{sum, bit}
 use Rattle.params.specs.Checks.{check_length, check_start, symbol_count, place_of}
 use Rattle.params.specs.declared.shape.Shape.{Shape}
 use Rattle.params.proofs.Sums.{sum_none, sum_more, sum_same}
-use Rattle.code.specs.Words.{Bits, Agree, message_bit, payload, parity, check_bits, checks, code_word, Checked}
+use Rattle.code.specs.Words.{Bits, Agree, message_bit, payload, parity, check_bits, checks, code_word, check_offset, Checked}
 use Rattle.code.proofs.Sums.{sum_upto}
 
 pub start_none : (s : Shape) → check_start s 0 ≡ s.kappa
@@ -20,23 +20,25 @@ start_more s j = omega (arith, sum_more j (check_length s))
 pub check_within : (s : Shape) (j n : ℕ) → j < n → check_start s j + check_length s j ≤ check_start s n
 check_within s j n h = omega (arith, start_more s j, sum_upto (j + 1) n (check_length s) (omega arith))
 
--- a place of a word lies in the payload or in a check
-place_found : (s : Shape) (n i : ℕ) → i < check_start s n → (i < s.kappa) ⊎ ((j : ℕ) × (l : ℕ) × (j < n) × (l < check_length s j) × (i ≡ check_start s j + l))
-place_found s zero i h = inl (omega (arith, start_none s))
-place_found s (suc n) i h = elim (cases_lt i (check_start s n)) [
-  | inl lt ↦ elim (place_found s n i lt) [
-    | inl front ↦ inl front
-    | inr (j, l, hj, hl, e) ↦ inr (j, l, omega arith, hl, e)
-  ]
-  | inr ge ↦ inr (n, i - check_start s n, omega arith, omega (arith, ap (check_start s) (add-one n), start_more s n), omega arith)
+-- what holds of the checks' places holds of each place among the check bits of a word
+pub each_check : (s : Shape) (n : ℕ) (P : ℕ → Type 0) → ((j l : ℕ) → j < n → l < check_length s j → P (check_offset s j + l)) → (i : ℕ) → i < check_offset s n → P i
+each_check s zero P all i h = absurd (omega (arith, sum_none (check_length s)))
+each_check s (suc n) P all i h = elim (cases_lt i (check_offset s n)) [
+  | inl lt ↦ each_check s n P (λ j l hj hl. all j l (omega arith) hl) i lt
+  | inr ge ↦ (
+      let e : check_offset s n + (i - check_offset s n) ≡ i = omega arith in
+      subst P e (all n (i - check_offset s n) (omega arith) (omega (arith, ap (check_offset s) (add-one n), sum_more n (check_length s)))))
 ]
 
 -- what holds of the payload's places and of the checks' holds of each place of a word
 pub each_place : (s : Shape) (P : ℕ → Type 0) → ((k : ℕ) → k < s.kappa → P k) → ((j l : ℕ) → j < 2 * s.f → l < check_length s j → P (check_start s j + l))
     → (i : ℕ) → i < symbol_count s → P i
-each_place s P front back i h = elim (place_found s (2 * s.f) i h) [
-  | inl k ↦ front i k
-  | inr (j, l, hj, hl, e) ↦ subst P (sym e) (back j l hj hl)
+each_place s P front back i h = elim (cases_lt i s.kappa) [
+  | inl lt ↦ front i lt
+  | inr ge ↦ (
+      let e : s.kappa + (i - s.kappa) ≡ i = omega arith in
+      let at = λ (j l : ℕ) (hj : j < 2 * s.f) (hl : l < check_length s j). let o : check_start s j + l ≡ s.kappa + (check_offset s j + l) = omega arith in subst P o (back j l hj hl) in
+      subst P e (each_check s (2 * s.f) (λ o. P (s.kappa + o)) at (i - s.kappa) (omega arith)))
 ]
 
 -- the parity depends on the payload alone

@@ -50,13 +50,17 @@ code_word s m = payload s m ++ checks s (payload s m) (2 * s.f)
 abbrev pub Checked : Shape → List ℕ → Type 0
 Checked s w = (j l : ℕ) → j < 2 * s.f → l < check_length s j → slice_index w (check_start s j + l) ≡ parity s w j l
 
--- bit l of check j with the payload bits at its place added to it, modulo 2
-abbrev pub added : Shape → List ℕ → ℕ → ℕ → ℕ
-added s w j l = (slice_index w (check_start s j + l) + parity s w j l) % 2
+-- where check j begins among the check bits of a word
+abbrev pub check_offset : Shape → ℕ → ℕ
+check_offset s j = sum j (check_length s)
 
--- u has the first n checks of w with the payload of w added
-abbrev pub PayloadAdded : Shape → ℕ → List ℕ → List ℕ → Type 0
-PayloadAdded s n w u = (j l : ℕ) → j < n → l < check_length s j → slice_index u (check_start s j + l) ≡ added s w j l
+-- bit l of check j, among the check bits c, with the payload bits of p at its place added to it, modulo 2
+abbrev pub added : Shape → (p c : List ℕ) → ℕ → ℕ → ℕ
+added s p c j l = (slice_index c (check_offset s j + l) + parity s p j l) % 2
+
+-- d has the first n checks of the check bits c with the payload p added
+abbrev pub PayloadAdded : Shape → ℕ → (p c d : List ℕ) → Type 0
+PayloadAdded s n p c d = (j l : ℕ) → j < n → l < check_length s j → slice_index d (check_offset s j + l) ≡ added s p c j l
 
 -- 1 where two words differ, else 0
 abbrev pub flip : List ℕ → List ℕ → ℕ → ℕ

@@ -1,50 +1,105 @@
-// Deciding which payload bits of a compared word are flipped. No branch and no index depends on its bits.
+// Comparing a received word with its checks, and deciding which payload bits are flipped. No branch and no index depends on its bits.
 ghost use Rattle.std.specs.Prelude.{◌≡◌, ℕ, ◌+◌, ◌-◌, ◌*◌, ◌<◌, ◌≤◌, length, if◌then◌else◌, nat_le, slice_index};
-ghost use Rattle.params.specs.Checks.{check_start, place_of};
-ghost use Rattle.params.specs.Limits.{most_flips, most_checks, most_kappa};
+ghost use Rattle.params.specs.Limits.{most_n, most_flips, most_checks, most_kappa};
 ghost use Rattle.params.specs.Sums.{bit};
-ghost use Rattle.code.specs.Words.{FirstBits};
-ghost use Rattle.code.specs.Correcting.{byte_of};
-ghost use Rattle.code.specs.Compared.{Counted, decided_bit};
+ghost use Rattle.code.specs.Words.{Bits, FirstBits, Agree, check_offset};
+ghost use Rattle.code.specs.Correcting.{number, byte_of};
+ghost use Rattle.code.specs.Compared.{Compared, votes, decided_bit};
 
-use crate::walk::next_place;
-use params::MOST_KAPPA;
+use crate::checks::add_checks;
+use crate::walk::Check;
 use params::code::Code;
+use params::{MOST_KAPPA, MOST_N};
+
+// The longest word: it has at most n symbols.
+const LONGEST_WORD: usize = MOST_N as usize;
 
 // The longest payload, in bits.
 const LONGEST_PAYLOAD: usize = MOST_KAPPA as usize;
 
-// Counts check j, which begins at place `from`, for each payload position whose bit differs in it.
-fn add_votes(code: &Code, j: usize, from: usize, compared: &[u8], count: &mut [u8])
-    requires known { j < 2 * code.now.shape.f }
-    requires begins { from ≡ check_start code.now.shape j }
-    requires room { code.now.mu ≤ length compared.now }
-    requires bits { FirstBits code.now.mu compared.now }
-    requires positions { code.now.shape.kappa ≤ length count.old }
-    requires few { (k : ℕ) → k < code.now.shape.kappa → slice_index count.old k ≤ j }
-    ensures { (k : ℕ) → k < code.now.shape.kappa → slice_index count.new k ≡ slice_index count.old k + slice_index compared.now (from + place_of code.now.shape j k) }
+// Check bits, with zeros after them.
+fn padded(bits: &[u8]) -> [u8; LONGEST_WORD]
+    requires { length bits.now ≤ most_n }
+    ensures room { length result ≡ most_n }
+    ensures same { Agree (length bits.now) result bits.now }
 {
-    let mut place = code.place(j, 0);
-    for k in 0..code.shape.kappa as usize {
-        count[k] += compared[from + place];
-        place = next_place(code, j, k, place);
+    let mut room = [0; LONGEST_WORD];
+    room[..bits.len()].copy_from_slice(bits);
+    room
+}
+
+// A received word, compared: the payload as received, and for each check bit 1 if it differs from the one worked out, else 0.
+#[derive(Drop)]
+pub(crate) struct ComparedWord<'a> {
+    code: &'a Code,
+    payload: &'a [u8],
+    checks: [u8; LONGEST_WORD],
+    ghost whole: { length payload.now ≡ code.now.shape.kappa },
+    ghost payload_bits: { FirstBits code.now.shape.kappa payload.now },
+    ghost room: { length checks ≡ most_n },
+    ghost check_bits: { FirstBits (check_offset code.now.shape (2 * code.now.shape.f)) checks },
+}
+
+impl<'a> ComparedWord<'a> {
+    // Compares a received word.
+    pub(crate) fn of(code: &'a Code, received: &'a [u8]) -> ComparedWord<'a>
+        requires long { length received.now ≡ code.now.mu }
+        requires bits { Bits received.now }
+        ensures code { result.code.now ≡ code.now }
+        ensures compared { Compared code.now.shape received.now result.payload.now result.checks }
+    {
+        let (payload, received_checks) = received.split_at(code.shape.kappa as usize);
+        let mut checks = padded(received_checks);
+        add_checks(code, payload, &mut checks);
+        ComparedWord {
+            code,
+            payload,
+            checks,
+        }
+    }
+
+    // Adds the votes of all checks to counts that are 0.
+    fn add_votes(&self, counts: &mut [u8])
+        requires whole { length counts.old ≡ self.now.code.now.shape.kappa }
+        requires clear { (k : ℕ) → k < self.now.code.now.shape.kappa → slice_index counts.old k ≡ 0 }
+        ensures counted { let s = self.now.code.now.shape in (k : ℕ) → k < s.kappa → slice_index counts.new k ≡ votes s self.now.checks k }
+        ensures few { (k : ℕ) → k < self.now.code.now.shape.kappa → slice_index counts.new k ≤ most_checks }
+    {
+        for j in 0..2 * self.code.shape.f as usize {
+            Check::of(self.code, j).add_votes(&self.checks, counts);
+        }
+    }
+
+    // Counts the votes.
+    pub(crate) fn count_votes(&'a self) -> Votes<'a>
+        ensures { result.word.now ≡ self.now }
+    {
+        let mut counts = [0; LONGEST_PAYLOAD];
+        self.add_votes(&mut counts[..self.payload.len()]);
+        Votes { word: self, counts }
     }
 }
 
-// In how many checks the bit of each payload position differs.
-pub(crate) fn count_votes(code: &Code, compared: &[u8]) -> [u8; LONGEST_PAYLOAD]
-    requires room { code.now.mu ≤ length compared.now }
-    requires bits { FirstBits code.now.mu compared.now }
-    ensures room { length result ≡ most_kappa }
-    ensures counted { Counted code.now.shape compared.now result }
-{
-    let mut count = [0u8; LONGEST_PAYLOAD];
-    let mut from = code.shape.kappa as usize;
-    for j in 0..2 * code.shape.f as usize {
-        add_votes(code, j, from, compared, &mut count);
-        from += code.shape.lengths[j] as usize;
+// A compared word with its votes: in how many checks the bit of each payload position differs.
+#[derive(Drop)]
+pub(crate) struct Votes<'a> {
+    word: &'a ComparedWord<'a>,
+    counts: [u8; LONGEST_PAYLOAD],
+    ghost room: { length counts ≡ most_kappa },
+    ghost counted: { (k : ℕ) → k < word.now.code.now.shape.kappa → slice_index counts k ≡ votes word.now.code.now.shape word.now.checks k },
+    ghost few: { (k : ℕ) → k < word.now.code.now.shape.kappa → slice_index counts k ≤ most_checks },
+}
+
+impl<'a> Votes<'a> {
+    // Byte i of the corrected message.
+    pub(crate) fn corrected_byte(&self, i: usize) -> u8
+        requires { 8 * i + 8 ≤ self.now.word.now.code.now.shape.kappa }
+        ensures { let word = self.now.word.now in result ≡ byte_of (decided_bit word.code.now.shape word.payload.now word.checks) i }
+    {
+        let bits = &self.word.payload[8 * i..8 * i + 8];
+        let counts = &self.counts[8 * i..8 * i + 8];
+        decided_byte(self.word.code.shape.f, bits, counts)
     }
-    count
 }
 
 // 1 if at least f + 1 checks differ, else 0: exactly then f less their count is below 0, which its highest bit shows.
@@ -67,19 +122,17 @@ fn decided(f: u16, received: u8, differing: u8) -> u8
     received ^ outvoted(f, differing)
 }
 
-// Byte i of the corrected message.
-pub(crate) fn corrected_byte(code: &Code, compared: &[u8], count: &[u8], i: usize) -> u8
-    requires inside { 8 * i + 8 ≤ code.now.shape.kappa }
-    requires room { code.now.mu ≤ length compared.now }
-    requires bits { FirstBits code.now.mu compared.now }
-    requires positions { code.now.shape.kappa ≤ length count.now }
-    requires counted { Counted code.now.shape compared.now count.now }
-    ensures { result ≡ byte_of (decided_bit code.now.shape compared.now) i }
+// The byte of eight payload bits, as they are decided.
+fn decided_byte(f: u16, received: &[u8], differing: &[u8]) -> u8
+    requires eight { (length received.now ≡ 8) × (length differing.now ≡ 8) }
+    requires small { FirstBits 8 received.now }
+    requires few { f ≤ most_flips }
+    requires counted { (q : ℕ) → q < 8 → slice_index differing.now q ≤ most_checks }
+    ensures { result ≡ number 8 (λ q. if nat_le (f + 1) (slice_index differing.now q) then 1 - slice_index received.now q else slice_index received.now q) }
 {
-    let mut byte = 0u8;
-    for q in 0..8usize {
-        let k = 8 * i + q;
-        byte = byte * 2 + decided(code.shape.f, compared[k], count[k]);
+    let mut byte = 0;
+    for (bit, count) in received.iter().zip(differing) {
+        byte = byte * 2 + decided(f, *bit, *count);
     }
     byte
 }

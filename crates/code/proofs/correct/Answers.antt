@@ -10,7 +10,9 @@ returns c =
     let code = c.args.code.now in
     let s = code.shape in
     let v = c.args.received.now in
+    let word = c.of-word.result in
+    let made = rw (c.count_votes-votes.ensures, c.of-word.ensures.code) at c.loop-i.invariant in
     let value : c.loop-i.message ≡ corrected_message s v = corrected_only s v c.loop-i.message (omega arith) (λ i h.
-    c.loop-i.invariant i (omega arith)
-    ∙ number_same 8 _ _ (λ q lt. decided s code.lengths code.mark v c.compare_checks-compared.result c.compare_checks-compared.ensures.compared (8 * i + q) (omega arith))) in
+    made i (omega arith)
+    ∙ number_same 8 _ _ (λ q lt. decided s code.lengths code.mark v word.payload.now word.checks c.of-word.ensures.compared (8 * i + q) (omega arith))) in
     record { value = value; mends = subst (λ (r : List ℕ). Mends s v r) (sym value) (mends code v c.requires.long c.requires.bits) }

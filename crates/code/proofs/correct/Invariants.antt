@@ -4,4 +4,6 @@ use Rattle.code.specs.Compared.{decided_bit}
 use Rattle.code.proofs.correct.Given as goal
 
 abbrev pub invariant-loop-i : goal.invariant-loop-i
-invariant-loop-i l = (n : ℕ) → n < l.i → get_or l.message n 0 ≡ byte_of (decided_bit l.code.shape l.compared) n
+invariant-loop-i l =
+    let word = l.votes.word.now in
+    (n : ℕ) → n < l.i → get_or l.message n 0 ≡ byte_of (decided_bit word.code.now.shape word.payload.now word.checks) n

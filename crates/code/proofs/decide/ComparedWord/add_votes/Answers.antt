@@ -1,0 +1,25 @@
+use Rattle.std.proofs.Common.{◌≡◌, ℕ, ◌+◌, ◌*◌, get_or, ap, ap₂, ◌∙◌, arith}
+use Rattle.params.specs.Checks.{place_of}
+use Rattle.params.specs.Sums.{sum}
+use Rattle.params.proofs.Sums.{sum_none, sum_more}
+use Rattle.code.specs.Words.{check_offset}
+use Rattle.code.proofs.Places.{bit_inside}
+use Rattle.code.proofs.decide.ComparedWord.add_votes.Goals as goal
+
+pub loop-j-init : goal.loop-j-init
+loop-j-init c = record { few = λ k h. omega (arith, c.requires.clear k h); counted = λ k h. omega (arith, c.requires.clear k h, sum_none (λ i. get_or c.args.self.now.checks (check_offset c.args.self.now.code.now.shape i + place_of c.args.self.now.code.now.shape i k) 0)) }
+
+pub loop-j-preserved : goal.loop-j-preserved
+loop-j-preserved c =
+    let word = c.args.self.now in
+    let s = word.code.now.shape in
+    let j = c.loop-j.j in
+    let i = c.loop-j.invariant in
+    let begins : c.of.result.from ≡ check_offset s j = rw (c.of.ensures.code, c.of.ensures.number) at c.of.result.begins in
+    let voted = rw (c.of.ensures.code, c.of.ensures.number) at c.add_votes.ensures in
+    let vote : ℕ → ℕ → ℕ = λ k i. get_or word.checks (check_offset s i + place_of s i k) 0 in
+    let here = λ (k : ℕ). ap (λ x. get_or word.checks (x + place_of s j k) 0) begins in
+    record {
+      few = λ k h. omega (arith, voted k h, here k, word.check_bits (check_offset s j + place_of s j k) (bit_inside word.code.now j k (omega arith) h), i.few k h);
+      counted = λ k h. omega (arith, voted k h, here k, i.counted k h, sum_more j (vote k));
+    }
