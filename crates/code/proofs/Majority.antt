@@ -1,5 +1,6 @@
 -- At most f flips are outvoted.
-use Rattle.std.proofs.Common.{◌≡◌, ℕ, zero, suc, ◌+◌, ◌-◌, ◌*◌, ◌%◌, ◌<◌, ◌≤◌, Bool, true, false, cond, not, eqb, List, length, get_or, sym, refl, ap, ◌∙◌, subst, inl, inr, le_of_eq, mul-le-mul_left, arith}
+use Rattle.std.proofs.Common.{◌≡◌, ℕ, zero, suc, ◌+◌, ◌-◌, ◌*◌, ◌%◌, ◌<◌, ◌≤◌, Bool, true, false, cond, not, eqb, leb, List, length, get_or, sym, refl, ap, ◌∙◌, subst, inl, inr, le_of_eq, mul-le-mul_left, arith}
+use Rattle.std.proofs.lemmas.Bool.Decides.{nat_tests}
 use Rattle.std.proofs.lemmas.Bool.{cases_eq, cases_Bool, cases_order, eq-eqb, ne_eqb, eqb-true, eqb-false, le-leb, lt-leb, cond-true, cond-false}
 use Rattle.params.specs.Sums.{sum, bit}
 use Rattle.params.specs.Checks.{check_length, check_start, place_of, CodeRule}
@@ -15,8 +16,7 @@ use Rattle.code.proofs.Places.{bit_inside}
 
 -- a flipped bit in a parity, where it counts and where it does not
 flipped_term : (x y e : ℕ) (counts : Bool) → y ≡ (x + e) % 2 → y * bit counts % 2 ≡ (x * bit counts + e * bit counts) % 2
-flipped_term x y e true is = omega arith
-flipped_term x y e false is = omega arith
+flipped_term x y e counts is = grind (arith, nat_tests)
 
 -- a sum over a word: the payload first, and then check by check
 sum_word : (s : Shape) (n : ℕ) (F : ℕ → ℕ) → sum (check_start s n) F ≡ sum s.kappa F + sum n (λ j. sum (check_length s j) (λ l. F (check_start s j + l)))
@@ -41,6 +41,10 @@ one_check s rule k o hk ho ne i j hi hj ei ej = elim (cases_order i j) [
       | inr (inl below) ↦ rule k o (record { i = x; j = y; two = lt; known = hy; order = below; inside = ho; in_i = sym ex; in_j = sym ey })
       | inr (inr above) ↦ rule o k (record { i = x; j = y; two = lt; known = hy; order = above; inside = hk; in_i = ex; in_j = ey })
     ]
+
+-- a bit x, received as y, is decided by how many checks differ
+decides : (f n x y : ℕ) → y ≡ (x + bit (not (eqb x y))) % 2 → x < 2 → (bit (not (eqb x y)) ≡ 0 → n ≤ f) → (bit (not (eqb x y)) ≡ 1 → f + 1 ≤ n) → cond (leb (f + 1) n) (1 - y) y ≡ x
+decides f n x y is small quiet loud = grind (arith, nat_tests)
 
 -- a word w whose checks hold, a word v of the same length, and a payload position k
 module _ (c : Code) (w v : List ℕ) (long_w : length w ≡ c.mu) (long_v : length v ≡ c.mu) (bits_w : Bits w) (bits_v : Bits v) (checked : Checked c.shape w) (k : ℕ) (hk : k < c.shape.kappa) where
@@ -133,14 +137,5 @@ module _ (c : Code) (w v : List ℕ) (long_w : length w ≡ c.mu) (long_v : leng
   -- at most f flips: payload bit k is corrected
   pub outvoted : distance w v ≤ s.f → corrected_bit s v k ≡ get_or w k 0
   outvoted few =
-      let x = get_or v k 0 in
       let is = flipped k (omega (arith, c.count)) in
-      elim (cases_eq (get_or w k 0) x) [
-        | inl e ↦ (
-            let z : flip w v k ≡ 0 = ap (λ b. bit (not b)) (eq-eqb _ _ e) in
-            cond-false _ (1 - x) x (lt-leb (s.f + 1) (differing s v k) (omega (arith, quiet z, budget))) ∙ sym e)
-        | inr ne ↦ (
-            let z : flip w v k ≡ 1 = ap (λ b. bit (not b)) (ne_eqb _ _ ne) in
-            let back : 1 - x ≡ get_or w k 0 = omega (arith, is) in
-            cond-true _ (1 - x) x (le-leb (s.f + 1) (differing s v k) (omega (arith, loud z, budget))) ∙ back)
-      ]
+      decides s.f (differing s v k) (get_or w k 0) (get_or v k 0) is (bits_w k (omega (arith, c.count))) (λ z. omega (arith, quiet z, budget)) (λ z. omega (arith, loud z, budget))

@@ -1,6 +1,8 @@
 -- One step of each loop of encoding and correcting.
 use Rattle.std.proofs.Common.{◌≡◌, ℕ, ◌+◌, ◌*◌, ◌%◌, ◌<◌, ◌≤◌, eqb, List, length, get_or, set, sym, ap, ◌∙◌, inl, inr, arith, get_or-set_other, get_or-set_same}
 use lib.Bits.{bit_xor}
+use Rattle.std.proofs.lemmas.Grind.{common_steps}
+use Rattle.std.proofs.lemmas.Bool.Decides.{nat_tests}
 use Rattle.std.proofs.lemmas.Bool.{cases_eq, eq-eqb, ne_eqb}
 use Rattle.params.specs.Sums.{sum, bit}
 use Rattle.params.specs.Checks.{check_length, place_of}
@@ -31,17 +33,7 @@ tally_more s p c d from j k l at b place inside room is small all lt =
     let here = from + at in
     let new = bit_xor (get_or d here 0) b in
     let more = sum_more k (λ i. get_or p i 0 * bit (eqb (place_of s j i) l)) in
-    elim (cases_eq l at) [
-      | inl e ↦ (
-          let old : get_or d here 0 ≡ tally s p c from j l k = ap (λ x. get_or d (from + x) 0) (sym e) ∙ all l lt in
-          let set_here : get_or (set d here new) (from + l) 0 ≡ new = ap (λ x. get_or (set d here new) (from + x) 0) e ∙ get_or-set_same d here new 0 room in
-          let counts : bit (eqb (place_of s j k) l) ≡ 1 = ap bit (eq-eqb (place_of s j k) l (sym place ∙ sym e)) in
-          omega (arith, set_here, xor_bits (get_or d here 0) b (omega (arith, old)) small, old, more, ap (λ n. get_or p k 0 * n) counts))
-      | inr ne ↦ (
-          let kept : get_or (set d here new) (from + l) 0 ≡ get_or d (from + l) 0 = get_or-set_other d here (from + l) new 0 (omega arith) in
-          let none : bit (eqb (place_of s j k) l) ≡ 0 = ap bit (ne_eqb (place_of s j k) l (λ x. ne (sym x ∙ sym place))) in
-          omega (arith, kept, all l lt, more, ap (λ n. get_or p k 0 * n) none))
-    ]
+    grind (arith, common_steps, nat_tests, xor_bits (get_or d here 0) b, all l lt, more)
 
 -- one more check: c has the check bits before all checks, d those before this one and e those after it
 pub checks_more : (s : Shape) (p c d e : List ℕ) (n from : ℕ) → from ≡ check_offset s n

@@ -42,7 +42,7 @@ sum_append a (suc b) F = let e : a + suc b ≡ suc (a + b) = omega arith in omeg
 
 -- a shorter range
 pub sum_upto : (a n : ℕ) (F : ℕ → ℕ) → a ≤ n → sum a F ≤ sum n F
-sum_upto a n F le = let d = n - a in let e : n ≡ a + d = omega arith in omega (arith, ap (λ x. sum x F) e, sum_append a d F)
+sum_upto a n F le = let e : n ≡ a + (n - a) = omega arith in omega (arith, ap (λ x. sum x F) e, sum_append a (n - a) F)
 
 -- a sum modulo 2, term by term
 pub sum_parity : (n : ℕ) (F G K : ℕ → ℕ) → ((i : ℕ) → i < n → F i % 2 ≡ (G i + K i) % 2) → sum n F % 2 ≡ (sum n G + sum n K) % 2

@@ -10,15 +10,9 @@ use Rattle.params.proofs.Sums.{sum_none, sum_more, sum_same}
 use Rattle.code.specs.Words.{Bits, Agree, message_bit, payload, parity, check_bits, checks, code_word, check_offset, Checked}
 use Rattle.code.proofs.Sums.{sum_upto}
 
-pub start_none : (s : Shape) → check_start s 0 ≡ s.kappa
-start_none s = omega (arith, sum_none (check_length s))
-
-pub start_more : (s : Shape) (j : ℕ) → check_start s (j + 1) ≡ check_start s j + check_length s j
-start_more s j = omega (arith, sum_more j (check_length s))
-
 -- check j ends before the first n checks do
 pub check_within : (s : Shape) (j n : ℕ) → j < n → check_start s j + check_length s j ≤ check_start s n
-check_within s j n h = omega (arith, start_more s j, sum_upto (j + 1) n (check_length s) (omega arith))
+check_within s j n h = omega (arith, sum_more j (check_length s), sum_upto (j + 1) n (check_length s) (omega arith))
 
 -- what holds of the checks' places holds of each place among the check bits of a word
 pub each_check : (s : Shape) (n : ℕ) (P : ℕ → Type 0) → ((j l : ℕ) → j < n → l < check_length s j → P (check_offset s j + l)) → (i : ℕ) → i < check_offset s n → P i
