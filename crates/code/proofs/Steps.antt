@@ -30,10 +30,7 @@ pub tally_more : (s : Shape) (p c d : List ℕ) (from j k l at b : ℕ) → at �
     → ((q : ℕ) → q < check_length s j → get_or d (from + q) 0 ≡ tally s p c from j q k)
     → l < check_length s j → get_or (set d (from + at) (bit_xor (get_or d (from + at) 0) b)) (from + l) 0 ≡ tally s p c from j l (k + 1)
 tally_more s p c d from j k l at b place inside room is small all lt =
-    let here = from + at in
-    let new = bit_xor (get_or d here 0) b in
-    let more = sum_more k (λ i. get_or p i 0 * bit (eqb (place_of s j i) l)) in
-    grind (arith, common_steps, nat_tests, xor_bits (get_or d here 0) b, all l lt, more)
+    grind (arith, common_steps, nat_tests, xor_bits (get_or d (from + at) 0) b, all l lt, sum_more k (λ i. get_or p i 0 * bit (eqb (place_of s j i) l)))
 
 -- one more check: c has the check bits before all checks, d those before this one and e those after it
 pub checks_more : (s : Shape) (p c d e : List ℕ) (n from : ℕ) → from ≡ check_offset s n
@@ -42,9 +39,6 @@ pub checks_more : (s : Shape) (p c d e : List ℕ) (n from : ℕ) → from ≡ c
     → ((l : ℕ) → l < check_length s n → get_or e (from + l) 0 ≡ added s p d n l)
     → PayloadAdded s n p c d → PayloadAdded s (n + 1) p c e
 checks_more s p c d e n from begins rest before here all j l hj hl = elim (cases_eq j n) [
-  | inl is ↦ (
-      let at : check_offset s j + l ≡ from + l = ap (λ x. check_offset s x + l) is ∙ ap (λ x. x + l) (sym begins) in
-      let same : added s p d n l ≡ added s p c n l = ap (λ x. (x + parity s p n l) % 2) (rest (check_offset s n + l) (omega arith)) in
-      ap (λ x. get_or e x 0) at ∙ here l (omega (arith, ap (check_length s) is)) ∙ same ∙ ap (λ x. added s p c x l) (sym is))
+  | inl is ↦ grind (arith, common_steps, nat_tests, here l, rest (check_offset s n + l))
   | inr ne ↦ before (check_offset s j + l) (omega (arith, check_within s j n (omega arith))) ∙ all j l (omega arith) hl
 ]
