@@ -1,10 +1,8 @@
 -- Bits as numbers, and lists of zeros.
-use Rattle.std.proofs.Common.{◌≡◌, ℕ, zero, suc, ◌+◌, ◌-◌, ◌%◌, ◌<◌, Bool, true, false, cond, not, eqb, get_or, replicate, refl, ap, inl, inr, arith}
+use Rattle.std.proofs.Common.{◌≡◌, ℕ, zero, suc, ◌+◌, ◌%◌, ◌<◌, Bool, true, false, not, eqb, get_or, replicate, refl, arith}
 use lib.Bits.{bit_xor}
 use Rattle.std.proofs.lemmas.Grind.{common_steps}
 use Rattle.std.proofs.lemmas.Bool.Decides.{nat_tests}
-use Rattle.std.proofs.lemmas.List.{get_or-replicate, get_or_past, length-replicate}
-use Rattle.std.proofs.lemmas.Bool.{cases_eq, cases_lt, eq-eqb, ne_eqb}
 use Rattle.params.specs.Sums.{bit}
 
 -- a test as a bit
@@ -21,13 +19,6 @@ xor_bits (suc zero) zero h g = refl
 xor_bits (suc zero) (suc zero) h g = refl
 xor_bits (suc zero) (suc (suc b)) h g = absurd (omega arith)
 xor_bits (suc (suc a)) b h g = absurd (omega arith)
-
--- a bit that is flipped or not
-pub flip_bit : (x : ℕ) (t : Bool) → x < 2 → bit_xor x (bit t) ≡ cond t (1 - x) x
-flip_bit x t h = grind (arith, common_steps, nat_tests, xor_bits x (bit t))
-
-pub flip_small : (x : ℕ) (t : Bool) → x < 2 → cond t (1 - x) x < 2
-flip_small x t h = grind (arith, nat_tests)
 
 -- two bits differ where their sum is odd
 pub differ_odd : (x y : ℕ) → x < 2 → y < 2 → bit (not (eqb x y)) ≡ (x + y) % 2

@@ -1,7 +1,7 @@
 -- What adding a payload to its checks makes of the check bits of a word.
-use Rattle.std.proofs.Common.{◌≡◌, ℕ, ◌+◌, ◌-◌, ◌*◌, ◌%◌, ◌<◌, ◌≤◌, cond, leb, List, ◌++◌, length, get_or, sym, ap, ◌∙◌, ap₂, arith}
-use Rattle.std.proofs.lemmas.List.{length-append, get_or_append_left, get_or-append-add}
-use Rattle.params.specs.Checks.{check_length, check_start, place_of, LengthsFit, MarkFits}
+use Rattle.std.proofs.Common.{◌≡◌, ℕ, ◌+◌, ◌-◌, ◌*◌, ◌<◌, cond, leb, List, ◌++◌, length, get_or, ◌∙◌, ap₂, arith}
+use Rattle.std.proofs.lemmas.List.{get_or_append_left, get_or-append-add}
+use Rattle.params.specs.Checks.{check_start, place_of, LengthsFit, MarkFits}
 use Rattle.params.specs.declared.shape.Shape.{Shape}
 use Rattle.params.specs.declared.code.Code.{Code}
 use Rattle.params.proofs.Sums.{sum_same}
@@ -22,10 +22,7 @@ encoded k m p c d size long payload clear back =
     let s = k.shape in
     let front : Agree s.kappa (p ++ d) p = λ i h. get_or_append_left p d 0 i (omega arith) in
     code_word_only s m (p ++ d) (long ∙ k.count) (λ i h. front i h ∙ payload i h) (λ j l hj hl.
-    let at : check_start s j + l ≡ length p + (check_offset s j + l) = omega arith in
-    ap (λ x. get_or (p ++ d) x 0) at ∙ get_or-append-add p d (check_offset s j + l) 0
-    ∙ omega (arith, back j l hj hl, clear (check_offset s j + l))
-    ∙ sym (parity_same s (p ++ d) p front j l))
+    grind (arith, back j l hj hl, clear (check_offset s j + l), get_or-append-add p d (check_offset s j + l) 0, parity_same s (p ++ d) p front j l))
 
 -- the payload p and the check bits c of a received word: c becomes d once p is added to it
 pub compared : (k : Code) (v p c d : List ℕ) → length v ≡ k.mu → Bits v → Agree k.shape.kappa p v
@@ -39,9 +36,7 @@ compared k v p c d long bits front copy back =
       checks = λ j l hj hl.
           let o = check_offset s j + l in
           let inside : s.kappa + o < k.mu = omega (arith, k.count, check_within s j (2 * s.f) hj) in
-          let at : s.kappa + o ≡ check_start s j + l = omega arith in
-          back j l hj hl ∙ ap₂ (λ x y. (x + y) % 2) (copy o inside ∙ ap (λ x. get_or v x 0) at) (parity_same s p v front j l)
-          ∙ sym (differ_odd (get_or v (check_start s j + l) 0) (parity s v j l) (bits (check_start s j + l) (omega arith)) (omega arith));
+          grind (arith, back j l hj hl, copy o inside, parity_same s p v front j l, bits (check_start s j + l), differ_odd (get_or v (check_start s j + l) 0) (parity s v j l));
     }
 
 -- compared check bits are bits

@@ -1,7 +1,7 @@
 -- At most f flips are outvoted.
-use Rattle.std.proofs.Common.{◌≡◌, ℕ, zero, suc, ◌+◌, ◌-◌, ◌*◌, ◌%◌, ◌<◌, ◌≤◌, Bool, true, false, cond, not, eqb, leb, List, length, get_or, sym, refl, ap, ◌∙◌, subst, inl, inr, le_of_eq, mul-le-mul_left, arith}
+use Rattle.std.proofs.Common.{◌≡◌, ℕ, zero, suc, ◌+◌, ◌-◌, ◌*◌, ◌%◌, ◌<◌, ◌≤◌, Bool, cond, not, eqb, leb, List, length, get_or, sym, refl, ap, subst, inl, inr, le_of_eq, mul-le-mul_left, arith}
 use Rattle.std.proofs.lemmas.Bool.Decides.{nat_tests}
-use Rattle.std.proofs.lemmas.Bool.{cases_eq, cases_Bool, cases_order, eq-eqb, ne_eqb, eqb-true, eqb-false, le-leb, lt-leb, cond-true, cond-false}
+use Rattle.std.proofs.lemmas.Bool.{cases_Bool, cases_order, eq-eqb, eqb-true, eqb-false}
 use Rattle.params.specs.Sums.{sum, bit}
 use Rattle.params.specs.Checks.{check_length, check_start, place_of, CodeRule}
 use Rattle.params.specs.declared.shape.Shape.{Shape}

@@ -1,14 +1,14 @@
 -- One step of each loop of encoding and correcting.
-use Rattle.std.proofs.Common.{◌≡◌, ℕ, ◌+◌, ◌*◌, ◌%◌, ◌<◌, ◌≤◌, eqb, List, length, get_or, set, sym, ap, ◌∙◌, inl, inr, arith, get_or-set_other, get_or-set_same}
+use Rattle.std.proofs.Common.{◌≡◌, ℕ, ◌+◌, ◌*◌, ◌%◌, ◌<◌, ◌≤◌, eqb, List, length, get_or, set, ap, ◌∙◌, inl, inr, arith}
 use lib.Bits.{bit_xor}
 use Rattle.std.proofs.lemmas.Grind.{common_steps}
 use Rattle.std.proofs.lemmas.Bool.Decides.{nat_tests}
-use Rattle.std.proofs.lemmas.Bool.{cases_eq, eq-eqb, ne_eqb}
+use Rattle.std.proofs.lemmas.Bool.{cases_eq}
 use Rattle.params.specs.Sums.{sum, bit}
 use Rattle.params.specs.Checks.{check_length, place_of}
 use Rattle.params.specs.declared.shape.Shape.{Shape}
 use Rattle.params.proofs.Sums.{sum_none, sum_more}
-use Rattle.code.specs.Words.{Agree, parity, check_offset, added, PayloadAdded}
+use Rattle.code.specs.Words.{Agree, check_offset, added, PayloadAdded}
 use Rattle.code.proofs.Bits.{xor_bits}
 use Rattle.code.proofs.Words.{check_within}
 

@@ -1,5 +1,6 @@
 -- The laws of code words: their length, their payload and their check bits.
-use Rattle.std.proofs.Common.{◌≡◌, ℕ, zero, suc, ◌+◌, ◌-◌, ◌*◌, ◌%◌, ◌<◌, ◌≤◌, eqb, ◌⊎◌, List, ◌++◌, length, get_or, sym, refl, ap, ◌∙◌, subst, ap₂, inl, inr, add-one, arith}
+use Rattle.std.proofs.Common.{◌≡◌, ℕ, zero, suc, ◌+◌, ◌-◌, ◌*◌, ◌%◌, ◌<◌, ◌≤◌, eqb, List, length, get_or, sym, refl, ap, ◌∙◌, subst, ap₂, inl, inr, add-one, arith}
+use Rattle.std.proofs.lemmas.Grind.{common_steps}
 use Rattle.std.proofs.lemmas.List.FromFn.{length-map-range_with_len, get_or-map-range_with_len}
 use Rattle.std.proofs.lemmas.List.{length-append, get_or_append_left, get_or-append_right, get_or-append-add, ext_get_or}
 use Rattle.std.proofs.lemmas.Bool.{cases_eq, cases_lt}
@@ -48,14 +49,8 @@ checks_at : (s : Shape) (w : List ℕ) (n j l : ℕ) → j < n → l < check_len
 unfolding checks
 checks_at s w zero j l hj hl = absurd (omega arith)
 checks_at s w (suc n) j l hj hl = elim (cases_eq j n) [
-  | inl e ↦ (
-      let here : sum j (check_length s) + l ≡ length (checks s w n) + l = ap (λ x. x + l) (ap (λ x. sum x (check_length s)) e ∙ sym (checks_length s w n)) in
-      ap (λ x. get_or (checks s w n ++ check_bits s w n) x 0) here
-      ∙ get_or-append-add (checks s w n) (check_bits s w n) l 0
-      ∙ get_or-map-range_with_len (parity s w n) 0 (check_length s n) l l 0 (omega (arith, ap (check_length s) e)) (omega arith)
-      ∙ ap (λ x. parity s w x l) (sym e))
-  | inr ne ↦ get_or_append_left (checks s w n) (check_bits s w n) 0 (sum j (check_length s) + l) (omega (arith, checks_length s w n, check_within s j n (omega arith)))
-      ∙ checks_at s w n j l (omega arith) hl
+  | inl e ↦ grind (arith, common_steps, checks_length s w n, get_or-append-add (checks s w n) (check_bits s w n) l 0, get_or-map-range_with_len (parity s w n) 0 (check_length s n) l l 0)
+  | inr ne ↦ grind (arith, common_steps, checks_length s w n, check_within s j n, checks_at s w n j l)
 ]
 
 payload_length : (s : Shape) (m : List ℕ) → length (payload s m) ≡ s.kappa
@@ -67,7 +62,7 @@ payload_at s m k h = get_or-map-range_with_len (message_bit m) 0 s.kappa k k 0 h
 -- a code word has one symbol for each bit of the payload and of the checks
 pub code_word_length : (s : Shape) (m : List ℕ) → length (code_word s m) ≡ symbol_count s
 unfolding code_word
-code_word_length s m = length-append (payload s m) (checks s (payload s m) (2 * s.f)) ∙ ap₂ (λ x y. x + y) (payload_length s m) (checks_length s (payload s m) (2 * s.f))
+code_word_length s m = simp (length-append, payload_length, checks_length)
 
 -- its payload is that of the message
 pub code_word_payload : (s : Shape) (m : List ℕ) (k : ℕ) → k < s.kappa → get_or (code_word s m) k 0 ≡ message_bit m k
@@ -79,11 +74,9 @@ pub code_word_checked : (s : Shape) (m : List ℕ) → Checked s (code_word s m)
 unfolding code_word
 code_word_checked s m j l hj hl =
     let p = payload s m in
-    let past : check_start s j + l - s.kappa ≡ sum j (check_length s) + l = omega arith in
-    get_or-append_right p (checks s p (2 * s.f)) s.kappa (check_start s j + l) 0 (payload_length s m) (omega arith)
-    ∙ ap (λ x. get_or (checks s p (2 * s.f)) x 0) past
-    ∙ checks_at s p (2 * s.f) j l hj hl
-    ∙ parity_same s p (code_word s m) (λ k h. payload_at s m k h ∙ sym (code_word_payload s m k h)) j l
+    let same = parity_same s p (code_word s m) (λ k h. payload_at s m k h ∙ sym (code_word_payload s m k h)) j l in
+    let back = checks_at s p (2 * s.f) j l hj hl in
+    get_or-append_right p (checks s p (2 * s.f)) s.kappa (check_start s j + l) 0 (payload_length s m) (omega arith) ∙ grind (arith, same, back)
 
 -- and it is the only such word
 pub code_word_only : (s : Shape) (m w : List ℕ) → length w ≡ symbol_count s → ((k : ℕ) → k < s.kappa → get_or w k 0 ≡ message_bit m k) → Checked s w → w ≡ code_word s m

@@ -1,4 +1,4 @@
-use Rattle.std.proofs.Common.{◌≡◌, ℕ, ◌+◌, ◌-◌, ◌*◌, ◌^◌, [], ◌∷◌, ◌++◌, cond, leb, length, get_or, sym, ap, ap₂, ◌∙◌, arith, pow-add, length-append}
+use Rattle.std.proofs.Common.{◌≡◌, ℕ, ◌+◌, ◌-◌, ◌^◌, [], ◌∷◌, ◌++◌, cond, leb, length, get_or, sym, ap, ap₂, ◌∙◌, arith, pow-add, length-append}
 use Rattle.std.proofs.lemmas.Slice.Zip.{zip_turn}
 use Rattle.code.specs.Correcting.{number}
 use Rattle.code.proofs.Numbers.{number_none, number_more}

@@ -1,6 +1,5 @@
-use Rattle.std.proofs.Common.{◌≡◌, ℕ, ◌+◌, ◌*◌, get_or, ap, ap₂, ◌∙◌, arith}
+use Rattle.std.proofs.Common.{◌≡◌, ℕ, ◌+◌, get_or, ap, arith}
 use Rattle.params.specs.Checks.{place_of}
-use Rattle.params.specs.Sums.{sum}
 use Rattle.params.proofs.Sums.{sum_none, sum_more}
 use Rattle.code.specs.Words.{check_offset}
 use Rattle.code.proofs.Places.{bit_inside}

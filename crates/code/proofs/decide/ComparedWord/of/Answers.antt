@@ -1,4 +1,4 @@
-use Rattle.std.proofs.Common.{◌≡◌, ℕ, ◌+◌, ◌<◌, get_or, ◌∙◌, arith}
+use Rattle.std.proofs.Common.{◌∙◌, arith}
 use Rattle.code.specs.Compared.{Compared}
 use Rattle.code.proofs.Compared.{compared, compared_bits}
 use Rattle.code.proofs.decide.ComparedWord.of.Goals as goal

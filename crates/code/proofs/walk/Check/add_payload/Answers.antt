@@ -1,4 +1,4 @@
-use Rattle.std.proofs.Common.{◌≡◌, ◌+◌, ◌<◌, length, get_or, refl, ◌∙◌, arith, get_or-set_other}
+use Rattle.std.proofs.Common.{◌+◌, get_or, refl, ◌∙◌, arith, get_or-set_other}
 use Rattle.params.proofs.Places.{place_inside}
 use Rattle.code.proofs.Places.{bit_inside}
 use Rattle.code.proofs.Steps.{tally_none, tally_more, tally_all}
