@@ -5,6 +5,7 @@ mod patterns;
 mod words;
 mod worked;
 
+use params::code::Code;
 use params::proposal::Proposal;
 use params::set::Set;
 use patterns::run_patterns;
@@ -50,15 +51,23 @@ const LARGE: Proposal<&'static [u16]> = Proposal {
     lengths: &[16, 16, 17, 31, 19, 29, 23, 25, 27, 37],
 };
 
+// Runs cases over the code of a set.
+fn run_cases<F: FnOnce(&Code) -> io::Result<()>>(
+    rt: &HostRuntime,
+    proposal: &Proposal<&[u16]>,
+    cases: F,
+) -> io::Result<()>
+    requires { F.IsAlwaysCallable cases }
+{
+    let Ok(set) = Set::make(proposal) else {
+        return println!(rt; "no set");
+    };
+    cases(&set.code)
+}
+
 fn main(rt: HostRuntime) -> io::Result<()> {
     for proposal in [SMALL, DOUBLE] {
-        match Set::make(&proposal) {
-            Ok(set) => run_patterns(&rt, &set.code)?,
-            Err(_) => println!(rt; "no set")?,
-        }
+        run_cases(&rt, &proposal, |code| run_patterns(&rt, code))?;
     }
-    match Set::make(&LARGE) {
-        Ok(set) => show_words(&rt, &set.code),
-        Err(_) => println!(rt; "no set"),
-    }
+    run_cases(&rt, &LARGE, |code| show_words(&rt, code))
 }

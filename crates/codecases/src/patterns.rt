@@ -10,58 +10,74 @@ use std::io;
 // Room for every word.
 const LONGEST_WORD: usize = MOST_N as usize;
 
-// Flips one symbol.
-fn flip(word: &mut [u8], at: usize)
-    requires inside { at < length word.old }
-    requires bits { Bits word.old }
-    ensures { Bits word.new }
-{
-    word[at] ^= 1;
-}
-
 // How many words were tried, and how many of them were mended.
-#[derive(Clone, Copy)]
+#[derive(Clone, Copy, Default)]
 struct Tally {
     tried: u32,
     mended: u32,
 }
 
-// Tries whether the word corrects to the message.
-fn try_word(code: &Code, message: u8, word: &[u8], tally: &mut Tally)
-    requires small { code.now.shape.kappa ≡ 8 }
-    requires long { length word.now ≡ code.now.mu }
-    requires bits { Bits word.now }
-{
-    let mut found = [0u8; 1];
-    correct(code, word, &mut found);
-    tally.tried = tally.tried.saturating_add(1);
-    tally.mended = tally.mended.saturating_add((found[0] == message) as u32);
+// A message of one byte and a word of symbols, which begins as its code word.
+#[derive(Drop)]
+struct Trial<'a> {
+    code: &'a Code,
+    message: u8,
+    word: &'a mut [u8],
+    ghost small: { code.now.shape.kappa ≡ 8 },
+    ghost long: { length word.now ≡ code.now.mu },
+    ghost bits: { Bits word.now },
 }
 
-// Tries the word with one flip, at each place from `from` on.
-fn try_flips(code: &Code, message: u8, word: &mut [u8], from: usize, tally: &mut Tally)
-    requires small { code.now.shape.kappa ≡ 8 }
-    requires long { length word.old ≡ code.now.mu }
-    requires bits { Bits word.old }
-    ensures { Bits word.new }
-{
-    for at in from..word.len() {
-        flip(word, at);
-        try_word(code, message, word, tally);
-        flip(word, at);
+impl<'a> Trial<'a> {
+    // Begins with the code word of the message.
+    fn new(code: &'a Code, message: u8, word: &'a mut [u8]) -> Trial<'a>
+        requires small { code.now.shape.kappa ≡ 8 }
+        requires long { length word.old ≡ code.now.mu }
+    {
+        encode(code, &[message], word);
+        Trial {
+            code,
+            message,
+            word,
+        }
     }
-}
 
-// Tries the word with two flips.
-fn try_pairs(code: &Code, message: u8, word: &mut [u8], tally: &mut Tally)
-    requires small { code.now.shape.kappa ≡ 8 }
-    requires long { length word.old ≡ code.now.mu }
-    requires bits { Bits word.old }
-{
-    for at in 0..word.len() {
-        flip(word, at);
-        try_flips(code, message, word, at + 1, tally);
-        flip(word, at);
+    // Flips one symbol.
+    fn flip(&mut self, at: usize)
+        requires { at < length self.old.word.now }
+        ensures { length self.new.word.now ≡ length self.old.word.now }
+    {
+        self.word[at] ^= 1;
+    }
+
+    // Tries whether the word corrects to the message.
+    fn try_word(&self, tally: &mut Tally) {
+        let mut found = [0u8; 1];
+        correct(self.code, self.word, &mut found);
+        tally.tried = tally.tried.saturating_add(1);
+        tally.mended = tally
+            .mended
+            .saturating_add((found == [self.message]) as u32);
+    }
+
+    // Tries the word with one flip, at each place from `from` on.
+    fn try_flips(&mut self, from: usize, tally: &mut Tally)
+        ensures { length self.new.word.now ≡ length self.old.word.now }
+    {
+        for at in from..self.word.len() {
+            self.flip(at);
+            self.try_word(tally);
+            self.flip(at);
+        }
+    }
+
+    // Tries the word with two flips.
+    fn try_pairs(&mut self, tally: &mut Tally) {
+        for at in 0..self.word.len() {
+            self.flip(at);
+            self.try_flips(at + 1, tally);
+            self.flip(at);
+        }
     }
 }
 
@@ -70,10 +86,10 @@ fn try_message(code: &Code, message: u8, word: &mut [u8], tallies: &mut [Tally; 
     requires small { code.now.shape.kappa ≡ 8 }
     requires long { length word.old ≡ code.now.mu }
 {
-    encode(code, &[message], word);
-    try_word(code, message, word, &mut tallies[0]);
-    try_flips(code, message, word, 0, &mut tallies[1]);
-    try_pairs(code, message, word, &mut tallies[2]);
+    let mut trial = Trial::new(code, message, word);
+    trial.try_word(&mut tallies[0]);
+    trial.try_flips(0, &mut tallies[1]);
+    trial.try_pairs(&mut tallies[2]);
 }
 
 // Tries all messages and reports, for each number of flips, how many words were mended.
@@ -82,11 +98,8 @@ pub fn run_patterns(rt: &HostRuntime, code: &Code) -> io::Result<()> {
         return println!(rt; "not a byte");
     }
     let mut buffer = [0u8; LONGEST_WORD];
-    let word = &mut buffer[0..code.mu as usize];
-    let mut tallies = [Tally {
-        tried: 0,
-        mended: 0,
-    }; 3];
+    let word = &mut buffer[..code.mu as usize];
+    let mut tallies = [Tally::default(); 3];
     for message in 0..=255u8 {
         try_message(code, message, word, &mut tallies);
     }

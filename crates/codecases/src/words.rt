@@ -17,16 +17,14 @@ fn print_word(rt: &HostRuntime, code: &Code, message: &[u8; MESSAGE_BYTES]) -> i
     }
     let mu = code.mu as usize;
     let mut word = [0u8; LONGEST_WORD];
-    encode(code, message, &mut word[0..mu]);
+    let word = &mut word[..mu];
+    encode(code, message, word);
     for byte in message {
         print!(rt; "{byte:02x}")?;
     }
     print!(rt; " ")?;
-    for i in 0..mu / 4 {
-        let digit = (word[4 * i] & 1) << 3
-            | (word[4 * i + 1] & 1) << 2
-            | (word[4 * i + 2] & 1) << 1
-            | word[4 * i + 3] & 1;
+    for symbols in word.chunks_exact(4) {
+        let digit = symbols.iter().fold(0u8, |digit, bit| digit << 1 | bit & 1);
         print!(rt; "{digit:x}")?;
     }
     println!(rt; "")
@@ -42,8 +40,8 @@ fn single_bit(k: u8) -> [u8; MESSAGE_BYTES] {
 // The message 00, 01, 02 and so on.
 fn counting() -> [u8; MESSAGE_BYTES] {
     let mut message = [0u8; MESSAGE_BYTES];
-    for i in 0..MESSAGE_BYTES {
-        message[i] = i as u8;
+    for (i, byte) in message.iter_mut().enumerate() {
+        *byte = i as u8;
     }
     message
 }

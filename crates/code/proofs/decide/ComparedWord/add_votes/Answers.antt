@@ -1,5 +1,6 @@
-use Rattle.std.proofs.Common.{◌≡◌, ℕ, ◌+◌, get_or, ap, arith}
+use Rattle.std.proofs.Common.{◌≡◌, ℕ, ◌+◌, ◌*◌, get_or, ap, ◌∙◌, arith}
 use Rattle.params.specs.Checks.{place_of}
+use Rattle.params.specs.Sums.{sum}
 use Rattle.params.proofs.Sums.{sum_none, sum_more}
 use Rattle.code.specs.Words.{check_offset}
 use Rattle.code.proofs.Places.{bit_inside}
@@ -22,3 +23,10 @@ loop-j-preserved c =
       few = λ k h. omega (arith, voted k h, here k, word.check_bits (check_offset s j + place_of s j k) (bit_inside word.code.now j k (omega arith) h), i.few k h);
       counted = λ k h. omega (arith, voted k h, here k, i.counted k h, sum_more j (vote k));
     }
+
+pub returns-clause-counted : goal.returns-clause-counted
+returns-clause-counted c k h =
+    let word = c.args.self.now in
+    let s = word.code.now.shape in
+    let all : c.loop-j.j ≡ 2 * s.f = omega arith in
+    c.loop-j.invariant.counted k h ∙ ap (λ n. sum n (λ i. get_or word.checks (check_offset s i + place_of s i k) 0)) all
