@@ -47,10 +47,6 @@ eighths n v = ap (λ k. k * v) (sym (div-add-mod' n 8)) ∙ add-mul (n / 8 * 8) 
 pub fill_count : (n v m w x y : ℕ) → x ≡ v → y ≡ w → n * v + m * w + (8 - (n % 8 * x + m % 8 * y) % 8) % 8 ≡ bytes_for (n * v + m * w) * 8
 fill_count n v m w x y ex ey = omega (arith, eighths n v, eighths m w, ap (λ k. n % 8 * k) ex, ap (λ k. m % 8 * k) ey)
 
--- what the test of the fill bits answers
-pub fill_told : (k j : ℕ) (bs : List ℕ) (t u : Bool) → t ≡ eqb (fill_after j bs) 0 → j ≡ k → t ≡ u → cond u (Ok tt) (Err Fill) ≡ fill_form k bs
-fill_told k j bs t u e f g = ap (λ b. cond b (Ok tt) (Err Fill)) (sym g ∙ e ∙ ap (λ i. eqb (fill_after i bs) 0) f)
-
 passed : (t : Bool) (u : Unit {0}) (r : Result (Unit {0}) PackFault) → r ≡ cond t (Ok tt) (Err Fill) → r ≡ Ok u → t ≡ true
 passed true u r e f = refl
 passed false u r e f = let z : ◌≡◌ {A = ℕ} 0 1 = cc in absurd (omega arith)

@@ -25,6 +25,7 @@ impl<'a> BitReader<'a> {
     ghost use Rattle.pack.specs.Places.{unread};
 
     // Before the first bit.
+    #[tactic(auto, unfolding(crate::specs::Bits::bits))]
     pub fn new(bytes: &'a [u8]) -> BitReader<'a>
         ensures { unread result ≡ run 8 bytes.now }
     {

@@ -21,6 +21,7 @@ impl<'a> BitWriter<'a> {
     ghost use Rattle.pack.specs.Places.{written, Wrote};
 
     // Nothing is written.
+    #[tactic(auto, unfolding(crate::specs::Bits::bits, crate::specs::Bits::run))]
     pub fn new(out: &'a mut [u8]) -> BitWriter<'a>
         ensures written { written result ≡ [] }
         ensures area { result.out.ghost_name ≡ out.entry.ghost_name }

@@ -10,6 +10,7 @@ use crate::writer::pack;
 use params::moduli::Moduli;
 
 // Unpacking what was packed gives it back, packing what was unpacked gives the same bytes, and one run worked through.
+#[tactic(auto, using(crate::proofs::Laws::unpacks_packed, crate::proofs::Laws::packs_unpacked, crate::proofs::Laws::worked))]
 pub fn round_trips()
     ensures unpacks { UnpacksPacked }
     ensures packs { PacksUnpacked }

@@ -1,7 +1,7 @@
 // Packing and unpacking of 1200 fields, many times over, for bench/pack.sh: `pack` and `unpack` take fields of 11 bits, and no argument a few runs of 6 bits.
 #![tactic(auto)]
 
-ghost use Rattle.std.specs.Prelude.{◌≡◌, ◌+◌, ◌*◌, length};
+ghost use Rattle.std.specs.Prelude.{◌≡◌, ◌*◌, length};
 ghost use Rattle.params.specs.Sizes.{bytes_for};
 
 use anyhow::anyhow;
@@ -19,128 +19,82 @@ const MANY: u32 = 200_000;
 
 const FEW: u32 = 10;
 
-fn fill_fields(xs: &mut [Rounded]) {
-    let mut x: u32 = 12345;
-    for i in 0..xs.len() {
-        x = x.wrapping_mul(1103515245).wrapping_add(12345);
-        xs[i] = Rounded(((x >> 16) & 63) as u16);
-    }
-}
-
-// Changes one field, so that no run is the same as the one before.
-fn touch(xs: &mut [Rounded], r: u32) {
-    let i = (r % 1200) as usize;
-    if i < xs.len() {
-        xs[i] = Rounded((r & 63) as u16);
-    }
-}
-
-fn flip(bytes: &mut [u8], r: u32) {
-    let i = (r % 900) as usize;
-    if i < bytes.len() {
-        bytes[i] ^= 1;
-    }
-}
-
 fn mixed(sum: u32, x: u32) -> u32 {
     sum.wrapping_mul(31).wrapping_add(x)
 }
 
-fn byte_sum(bytes: &[u8]) -> u32 {
-    let mut sum = 0;
-    for byte in bytes {
-        sum = mixed(sum, *byte as u32);
-    }
-    sum
-}
-
-fn field_sum(xs: &[Rounded]) -> u32 {
-    let mut sum = 0;
-    for x in xs {
-        sum = mixed(sum, x.0 as u32);
-    }
-    sum
-}
-
-fn last_byte(bytes: &[u8]) -> u32 {
-    match bytes {
-        [.., last] => *last as u32,
-        [] => 0,
+fn fill_fields(xs: &mut [Rounded]) {
+    let mut word: u32 = 12345;
+    for x in xs.iter_mut() {
+        word = word.wrapping_mul(1103515245).wrapping_add(12345);
+        *x = Rounded(((word >> 16) & 63) as u16);
     }
 }
 
-fn last_field(xs: &[Rounded]) -> u32 {
-    match xs {
-        [.., last] => last.0 as u32,
-        [] => 0,
+// The fields, and as many bytes as they take.
+#[derive(Drop)]
+struct Lists<'a> {
+    moduli: Moduli,
+    xs: &'a mut [Rounded],
+    bytes: &'a mut [u8],
+    ghost long: { length bytes.now ≡ bytes_for (length xs.now * moduli.pb) },
+}
+
+impl Lists<'_> {
+    // Packs, and gives the last byte. One field is changed first, so that no run is the same as the one before.
+    fn pack_once(&mut self, r: u32) -> u32 {
+        if let Some(x) = self.xs.get_mut((r % 1200) as usize) {
+            *x = Rounded((r & 63) as u16);
+        }
+        let none: [Symbol; 0] = [];
+        pack(self.moduli, self.xs, &none, self.bytes);
+        self.bytes.last().map_or(0, |byte| u32::from(*byte))
     }
-}
 
-fn pack_once(moduli: Moduli, xs: &[Rounded], out: &mut [u8]) -> u32
-    requires { length out.old ≡ bytes_for (length xs.now * moduli.pb) }
-{
-    let none: [Symbol; 0] = [];
-    pack(moduli, xs, &none, out);
-    last_byte(out)
-}
-
-fn unpack_once(moduli: Moduli, bytes: &[u8], xs: &mut [Rounded]) -> u32
-    requires { length bytes.now ≡ bytes_for (length xs.old * moduli.pb) }
-{
-    let mut none: [Symbol; 0] = [];
-    fields(moduli, bytes, xs, &mut none);
-    last_field(xs)
-}
-
-fn packs(moduli: Moduli, xs: &mut [Rounded], out: &mut [u8], times: u32) -> u32
-    requires { length out.old ≡ bytes_for (length xs.old * moduli.pb) }
-{
-    let mut sum = 0;
-    for r in 0..times {
-        touch(xs, r);
-        sum = mixed(sum, pack_once(moduli, xs, out));
+    // Unpacks, and gives the last field. One bit is changed first.
+    fn unpack_once(&mut self, r: u32) -> u32 {
+        if let Some(byte) = self.bytes.get_mut((r % 900) as usize) {
+            *byte ^= 1;
+        }
+        let mut none: [Symbol; 0] = [];
+        fields(self.moduli, self.bytes, self.xs, &mut none);
+        self.xs.last().map_or(0, |x| u32::from(x.0))
     }
-    mixed(sum, byte_sum(out))
-}
 
-fn unpacks(moduli: Moduli, bytes: &mut [u8], xs: &mut [Rounded], times: u32) -> u32
-    requires { length bytes.old ≡ bytes_for (length xs.old * moduli.pb) }
-{
-    let mut sum = 0;
-    for r in 0..times {
-        flip(bytes, r);
-        sum = mixed(sum, unpack_once(moduli, bytes, xs));
+    // Packs so many times: the sum of what each gives, and of the bytes.
+    fn pack_sum(&mut self, times: u32) -> u32 {
+        let mut sum = 0;
+        for r in 0..times {
+            sum = mixed(sum, self.pack_once(r));
+        }
+        let bytes = self.bytes.iter();
+        mixed(sum, bytes.fold(0, |sum, byte| mixed(sum, u32::from(*byte))))
     }
-    mixed(sum, field_sum(xs))
+
+    // Unpacks so many times: the sum of what each gives, and of the fields.
+    fn unpack_sum(&mut self, times: u32) -> u32 {
+        let mut sum = 0;
+        for r in 0..times {
+            sum = mixed(sum, self.unpack_once(r));
+        }
+        let xs = self.xs.iter();
+        mixed(sum, xs.fold(0, |sum, x| mixed(sum, u32::from(x.0))))
+    }
 }
 
 // The sums of what is packed so many times, and of what is then unpacked.
-fn sums(
-    moduli: Moduli,
-    xs: &mut [Rounded],
-    bytes: &mut [u8],
-    pack_times: u32,
-    unpack_times: u32,
-) -> (u32, u32)
-    requires { length bytes.old ≡ bytes_for (length xs.old * moduli.pb) }
-{
-    let packed = packs(moduli, xs, bytes, pack_times);
-    let unpacked = unpacks(moduli, bytes, xs, unpack_times);
-    (packed, unpacked)
-}
-
 fn bench(moduli: Moduli, pack_times: u32, unpack_times: u32) -> (u32, u32) {
     let mut xs = [Rounded(0); FIELDS];
     let mut bytes = [0u8; MOST_BYTES];
     fill_fields(&mut xs);
     let len = (FIELDS * moduli.pb as usize).div_ceil(8);
-    sums(
+    let mut lists = Lists {
         moduli,
-        &mut xs,
-        &mut bytes[0..len],
-        pack_times,
-        unpack_times,
-    )
+        xs: &mut xs,
+        bytes: &mut bytes[..len],
+    };
+    let packed = lists.pack_sum(pack_times);
+    (packed, lists.unpack_sum(unpack_times))
 }
 
 fn run(rt: &HostRuntime) -> anyhow::Result<()> {
