@@ -1,4 +1,4 @@
 mod Again
-mod Loops
+mod Words
 mod Parts
 mod Trips

@@ -8,10 +8,11 @@ use Rattle.params.specs.Sums.{bit}
 use Rattle.shake.proofs.Laws.{length_shake256}
 use Rattle.rack.specs.declared.record.Coins.{Coins}
 use Rattle.rackfile.specs.Words.{word_bytes, words_from}
-use Rattle.rackfile.specs.Places.{place_count, place_size, coin_bytes, unused_bytes, place_bytes, places_bytes, coins_from, place_from, places_from, WholeCoins, WholePlace, WholePlaces}
+use Rattle.rack.specs.Calls.{place_count, coins_from, coin_bytes}
+use Rattle.rackfile.specs.Places.{place_size, unused_bytes, place_bytes, places_bytes, place_from, places_from, WholeCoins, WholePlace, WholePlaces}
 use Rattle.rackfile.specs.Format.{file_size, letters, number_bytes, body_bytes, checksum_of, encoded, numbers_from, image_from, decoded, Whole, NeverWritten}
 use Rattle.rackfile.specs.declared.image.Image.{Image}
-use Rattle.rackfile.specs.declared.image.Numbers.{Numbers}
+use Rattle.rackfile.specs.Sets.{KeptNumbers}
 use Rattle.rackfile.specs.declared.fault.RackFault.{RackFault}
 
 -- words
@@ -70,10 +71,10 @@ mark_back : (b : Bool) → not (eqb (bit b) 0) ≡ b
 mark_back true = refl
 mark_back false = refl
 
-length_numbers : (s : Numbers) → length s.lengths ≡ 10 → length (number_bytes s) ≡ 35
+length_numbers : (s : KeptNumbers) → length s.lengths ≡ 10 → length (number_bytes s) ≡ 35
 length_numbers s h = omega (arith, length_words s.lengths)
 
-numbers_back : (s : Numbers) → length s.lengths ≡ 10 → numbers_from (number_bytes s) ≡ s
+numbers_back : (s : KeptNumbers) → length s.lengths ≡ 10 → numbers_from (number_bytes s) ≡ s
 numbers_back s h =
     let last : words_from (take 20 (word_bytes s.lengths)) ≡ s.lengths = ap words_from (take_all 20 (word_bytes s.lengths) (omega (arith, length_words s.lengths))) ∙ words_back s.lengths in
     rw (word_back s.n, word_back s.h, word_back s.qb, word_back s.pb, word_back s.tb, word_back s.kappa, word_back s.f, mark_back s.block, last)
@@ -121,7 +122,7 @@ image_back x w =
     let ln : length (number_bytes x.numbers) ≡ 35 = length_numbers x.numbers w.lengths in
     let lp : length (places_bytes x.places) ≡ 388 = length_places_bytes x w in
     let sum : List ℕ = checksum_of (body_bytes x) in
-    ap₂ (λ (a : Numbers) (b : List (Option Coins)). record { numbers = a; places = b })
+    ap₂ (λ (a : KeptNumbers) (b : List (Option Coins)). record { numbers = a; places = b })
     (ap numbers_from (second_part letters n p sum refl ln lp) ∙ numbers_back x.numbers w.lengths)
     (ap (places_from place_count) (third_part letters n p sum refl ln lp) ∙ ap (λ (k : ℕ). places_from k p) (sym w.count) ∙ places_back x.places w.places)
 

@@ -5,9 +5,10 @@ use Rattle.params.specs.Limits.{most_checks}
 use Rattle.params.specs.Sums.{bit}
 use Rattle.shake.specs.Shake.{shake256}
 use Rattle.rackfile.specs.Words.{word_bytes, words_from}
-use Rattle.rackfile.specs.Places.{place_count, places_bytes, places_from, WholePlaces}
+use Rattle.rack.specs.Calls.{place_count}
+use Rattle.rackfile.specs.Places.{places_bytes, places_from, WholePlaces}
 use Rattle.rackfile.specs.declared.image.Image.{Image}
-use Rattle.rackfile.specs.declared.image.Numbers.{Numbers}
+use Rattle.rackfile.specs.Sets.{KeptNumbers}
 use Rattle.rackfile.specs.declared.fault.RackFault.{RackFault}
 use Rattle.rackfile.specs.declared.fault.RackFault.TheVariants.{Length, NoRack, Damaged}
 
@@ -20,11 +21,11 @@ abbrev pub letters : List ℕ
 letters = codes "sealrack"
 
 -- the numbers of a set in their order, without the check lengths
-abbrev pub scalars : Numbers → List ℕ
+abbrev pub scalars : KeptNumbers → List ℕ
 scalars s = s.n ∷ s.h ∷ s.qb ∷ s.pb ∷ s.tb ∷ s.kappa ∷ s.f ∷ []
 
 -- seven words, the block mark, and a word for each check
-abbrev pub number_bytes : Numbers → List ℕ
+abbrev pub number_bytes : KeptNumbers → List ℕ
 number_bytes s = word_bytes (scalars s) ++ (bit s.block ∷ word_bytes s.lengths)
 
 -- all but the checksum
@@ -40,7 +41,7 @@ unfoldable pub encoded : Image → List ℕ
 encoded x = body_bytes x ++ checksum_of (body_bytes x)
 
 -- the numbers that stand in 35 bytes, whatever they are
-abbrev pub numbers_from : List ℕ → Numbers
+abbrev pub numbers_from : List ℕ → KeptNumbers
 numbers_from bs =
     let ws = words_from (take 14 bs) in
     record {

@@ -1,18 +1,12 @@
 -- The places of a rack as bytes.
-use Rattle.std.specs.Prelude.{◌≡◌, ℕ, zero, suc, cond, List, [], ◌∷◌, ◌++◌, length, take, drop, replicate, ◌==◌, slice_index, slice_index_or, Option, Some, None}
+use Rattle.std.specs.Prelude.{◌≡◌, ℕ, zero, suc, cond, List, [], ◌∷◌, length, take, drop, replicate, ◌==◌, slice_index, slice_index_or, Option, Some, None}
 use Rattle.std.specs.List.{flat_map}
+use Rattle.rack.specs.Calls.{coins_from, coin_bytes}
 use Rattle.rack.specs.declared.record.Coins.{Coins}
-
--- how many places a rack has
-abbrev pub place_count : ℕ
-place_count = 4
 
 -- the bytes of a place: a mark and 96 bytes
 abbrev pub place_size : ℕ
 place_size = 97
-
-abbrev pub coin_bytes : Coins → List ℕ
-coin_bytes c = c.sigma ++ (c.seed ++ c.z)
 
 -- the mark and the coins of a place in use
 abbrev pub used_bytes : Coins → List ℕ
@@ -28,10 +22,6 @@ place_bytes (Some c) = used_bytes c
 
 abbrev pub places_bytes : List (Option Coins) → List ℕ
 places_bytes ps = flat_map place_bytes ps
-
--- the coins that stand in 96 bytes
-abbrev pub coins_from : List ℕ → Coins
-coins_from bs = record { sigma = take 32 bs; seed = take 32 (drop 32 bs); z = take 32 (drop 64 bs) }
 
 -- what stands in the bytes of a place, whatever they are: it is in use unless its mark is 0
 abbrev pub place_from : List ℕ → Option Coins

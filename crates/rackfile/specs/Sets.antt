@@ -3,16 +3,20 @@ use Rattle.std.specs.Prelude.{◌≡◌, ℕ, ◌-◌, ◌*◌, List, ◌++◌, 
 use Rattle.params.specs.Limits.{most_checks}
 use Rattle.params.specs.Rules.{Lawful}
 use Rattle.params.specs.Proposed.{LentProposal}
+use Rattle.params.specs.declared.proposal.Proposal.{Proposal}
 use Rattle.params.specs.declared.set.Set.{Set}
 use Rattle.params.specs.declared.shape.Shape.{Shape}
-use Rattle.rackfile.specs.declared.image.Numbers.{Numbers}
+
+-- the numbers of a set with the whole table of its check lengths
+abbrev pub KeptNumbers : Type 0
+KeptNumbers = Proposal (List ℕ)
 
 -- the check lengths of a code, filled with zeros
 abbrev pub kept_lengths : Shape → List ℕ
 kept_lengths s = take (2 * s.f) s.lengths ++ replicate (most_checks - 2 * s.f) 0
 
 -- the numbers of a set
-abbrev pub numbers_of : Set → Numbers
+abbrev pub numbers_of : Set → KeptNumbers
 numbers_of s = record {
   n = s.n;
   h = s.h;
@@ -26,11 +30,11 @@ numbers_of s = record {
 }
 
 -- the check lengths that numbers propose: two for each flip, and at most those of the table
-abbrev pub proposed : Numbers → List ℕ
+abbrev pub proposed : KeptNumbers → List ℕ
 proposed s = take (2 * s.f) s.lengths
 
 -- the proposal has these numbers
-pub record Proposes (p : LentProposal) (s : Numbers) : Type 0 where
+pub record Proposes (p : LentProposal) (s : KeptNumbers) : Type 0 where
   pub n : p.n ≡ s.n
   pub h : p.h ≡ s.h
   pub qb : p.qb ≡ s.qb
@@ -42,5 +46,5 @@ pub record Proposes (p : LentProposal) (s : Numbers) : Type 0 where
   pub lengths : p.lengths.now ≡ proposed s
 
 -- every proposal that has these numbers is lawful
-abbrev pub LawfulNumbers : Numbers → Type 0
+abbrev pub LawfulNumbers : KeptNumbers → Type 0
 LawfulNumbers s = (p : LentProposal) → Proposes p s → Lawful p

@@ -12,6 +12,7 @@ mod writing;
 
 pub use fault::RackFault;
 pub use image::{Image, Numbers};
+pub use numbers::{numbers_of, proposal_of};
 pub use reading::decode;
 pub use writing::encode;
 

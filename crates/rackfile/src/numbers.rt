@@ -20,11 +20,12 @@ fn keep_lengths(shape: &Shape) -> [u16; MOST_CHECKS]
     table
 }
 
-// The numbers that a set has.
-fn numbers_in(set: &Set) -> Numbers
-    ensures { result ≡ numbers_of set.now }
+/// The numbers of a set. Every proposal that has them is lawful, so the set can be made again.
+pub fn numbers_of(set: &Set) -> Numbers
+    ensures value { result ≡ numbers_of set.now }
+    ensures lawful { LawfulNumbers result }
 {
-    Numbers {
+    Proposal {
         n: set.n,
         h: set.h,
         qb: set.moduli.qb as u16,
@@ -37,41 +38,17 @@ fn numbers_in(set: &Set) -> Numbers
     }
 }
 
-impl Numbers {
-    /// The numbers of a set. Every proposal that has them is lawful, so the set can be made again.
-    pub fn of(set: &Set) -> Numbers
-        ensures value { result ≡ numbers_of set.now }
-        ensures lawful { LawfulNumbers result }
-    {
-        numbers_in(set)
-    }
+// The check lengths: two for each flip, or the whole table where that is more.
+fn check_lengths(numbers: &Numbers) -> &[u16]
+    ensures { result.now ≡ proposed numbers.now }
+{
+    let count = 2 * numbers.f as usize;
+    &numbers.lengths[0..count.min(MOST_CHECKS)]
+}
 
-    // The check lengths: two for each flip, or the whole table where that is more.
-    fn check_lengths(&self) -> &[u16]
-        ensures { result.now ≡ proposed self.now }
-    {
-        let count = 2 * self.f as usize;
-        if count < MOST_CHECKS {
-            &self.lengths[0..count]
-        } else {
-            &self.lengths
-        }
-    }
-
-    /// The proposal of a set with these numbers.
-    pub fn proposal(&self) -> Proposal<&[u16]>
-        ensures { Proposes result self.now }
-    {
-        Proposal {
-            n: self.n,
-            h: self.h,
-            qb: self.qb,
-            pb: self.pb,
-            tb: self.tb,
-            kappa: self.kappa,
-            f: self.f,
-            block: self.block,
-            lengths: self.check_lengths(),
-        }
-    }
+/// The proposal of a set with these numbers.
+pub fn proposal_of(numbers: &Numbers) -> Proposal<&[u16]>
+    ensures { Proposes result numbers.now }
+{
+    numbers.with_lengths(check_lengths(numbers))
 }

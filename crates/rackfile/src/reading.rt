@@ -2,13 +2,14 @@
 ghost use Rattle.std.specs.Prelude.{◌≡◌, length, MatchResult};
 ghost use Rattle.rackfile.specs.Format.{file_size, encoded, numbers_from, image_from, confirmed, decoded, NeverWritten};
 
-use crate::bytes::{read_words, same_bytes};
+use crate::bytes::read_words;
 use crate::fault::RackFault;
 use crate::image::{Image, Numbers};
 use crate::places::read_places;
 use crate::writing::{LETTERS, encode};
 use crate::{LETTERS_END, NUMBERS_END, PLACES_END, RACK_FILE_BYTES};
 use params::MOST_CHECKS;
+use params::proposal::Proposal;
 
 // Reads the numbers of a set; the block mark is set unless its byte is 0.
 fn read_numbers(bytes: &[u8]) -> Numbers
@@ -19,7 +20,7 @@ fn read_numbers(bytes: &[u8]) -> Numbers
     let mut lengths = [0u16; MOST_CHECKS];
     read_words(&bytes[0..14], &mut words);
     read_words(&bytes[15..35], &mut lengths);
-    Numbers {
+    Proposal {
         n: words[0],
         h: words[1],
         qb: words[2],
@@ -47,7 +48,7 @@ fn read_image(bytes: &[u8]) -> Image
 fn confirm(image: Image, bytes: &[u8]) -> Result<Image, RackFault>
     ensures { result ≡ confirmed image bytes.now }
 {
-    if same_bytes(&encode(&image), bytes) {
+    if encode(&image).as_slice() == bytes {
         Ok(image)
     } else {
         Err(RackFault::Damaged)
@@ -61,7 +62,7 @@ fn read_file(bytes: &[u8]) -> Result<Image, RackFault>
     if bytes.len() != RACK_FILE_BYTES {
         return Err(RackFault::Length(bytes.len()));
     }
-    if !same_bytes(&bytes[0..LETTERS_END], LETTERS) {
+    if !bytes.starts_with(LETTERS) {
         return Err(RackFault::NoRack);
     }
     confirm(read_image(bytes), bytes)

@@ -1,7 +1,6 @@
 // Writing a rack file.
 ghost use Rattle.std.specs.Prelude.{◌≡◌, length, Ok};
 ghost use Rattle.params.specs.Limits.{most_checks};
-ghost use Rattle.params.specs.Sums.{bit};
 ghost use Rattle.rackfile.specs.Format.{file_size, number_bytes, body_bytes, checksum_of, encoded, decoded, Whole};
 
 use crate::bytes::write_words;
@@ -19,12 +18,6 @@ const CHECKSUM_BYTES: usize = 32;
 // The label of the checksum's hash.
 const CHECKSUM_LABEL: u8 = 0x52;
 
-fn mark(block: bool) -> u8
-    ensures { result ≡ bit block }
-{
-    if block { 1 } else { 0 }
-}
-
 // Writes the numbers of a set: seven words, the block mark, and a word for each check.
 fn write_numbers(numbers: &Numbers, out: &mut [u8])
     requires { length out.old ≡ 35 }
@@ -41,7 +34,7 @@ fn write_numbers(numbers: &Numbers, out: &mut [u8])
         numbers.f,
     ];
     write_words(&words, &mut out[0..14]);
-    out[14] = mark(numbers.block);
+    out[14] = u8::from(numbers.block);
     write_words(&numbers.lengths, &mut out[15..35]);
 }
 

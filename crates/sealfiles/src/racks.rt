@@ -3,7 +3,7 @@ use crate::files::{read_bytes, write_one};
 use crate::stop::Stop;
 use params::set::Set;
 use rack::{PLACES, Rack, Record};
-use rackfile::{Image, Numbers, decode, encode};
+use rackfile::{Image, decode, encode, numbers_of, proposal_of};
 use setfile::file::read_set;
 use setfile::proposed::proposal;
 use source::Source;
@@ -26,7 +26,7 @@ pub fn load_rack<'a>(rt: &HostRuntime, path: &'a str) -> Result<Loaded, Stop<'a>
     let bytes = read_bytes(rt, path)?;
     let image = decode(bytes.as_slice()).map_err(|fault| Stop::BadRack(path, fault))?;
     Ok(Loaded {
-        set: Set::make(&image.numbers.proposal())?,
+        set: Set::make(&proposal_of(&image.numbers))?,
         places: image.places,
     })
 }
@@ -39,7 +39,7 @@ pub fn store_rack<'a>(
     places: &[Record; PLACES],
 ) -> Result<(), Stop<'a>> {
     let image = Image {
-        numbers: Numbers::of(set),
+        numbers: numbers_of(set),
         places: *places,
     };
     write_one(rt, path, &encode(&image))
