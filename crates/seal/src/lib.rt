@@ -88,45 +88,6 @@ fn seal_in<S: Source>(
     Ok(())
 }
 
-// The call without its guards.
-fn seal_within<S: Source>(
-    set: &Set,
-    source: &mut S,
-    key: &[u8],
-    message: &[u8],
-    parcel: &mut [u8],
-    secret_out: &mut [u8],
-    secret: &mut [u16],
-    product: &mut [u16],
-) -> Result<(), Refusal>
-    ensures book { S.book source.new ≡ S.book source.old }
-    ensures cases { Answers result
-        (sealed (S.book source.old) set.now (length parcel.old) (length secret_out.old) (length secret.old) (length product.old) key.now message.now)
-        (both parcel.new secret_out.new) (both parcel.old secret_out.old) }
-{
-    let key = check_seal(
-        set,
-        parcel.len(),
-        secret_out.len(),
-        secret.len(),
-        product.len(),
-        key,
-        message,
-    )?;
-    let h = set.h as usize;
-    let words = set.n as usize + 1;
-    seal_in(
-        source,
-        &key,
-        message,
-        parcel,
-        secret_out,
-        &mut secret[0..h],
-        &mut product[0..words],
-    )?;
-    Ok(())
-}
-
 /// Seals a message to a key: writes the parcel and the station's secret. Both working areas are all zeros on every way out; on a refusal
 /// parcel and secret are as before.
 pub fn seal<S: Source>(
@@ -148,14 +109,17 @@ pub fn seal<S: Source>(
 {
     let secret_area = Wiped { area: secret_area };
     let product_area = Wiped { area: product_area };
-    seal_within(
+    let key = check_seal(
         set,
-        source,
+        parcel.len(),
+        secret_out.len(),
+        secret_area.area.len(),
+        product_area.area.len(),
         key,
         message,
-        parcel,
-        secret_out,
-        secret_area.area,
-        product_area.area,
-    )
+    )?;
+    let secret = &mut secret_area.area[0..set.h as usize];
+    let product = &mut product_area.area[0..set.n as usize + 1];
+    seal_in(source, &key, message, parcel, secret_out, secret, product)?;
+    Ok(())
 }
