@@ -1,7 +1,7 @@
 // Gauge.
-ghost use Rattle.std.specs.Prelude.{◌≡◌, ℕ, ◌+◌, ◌^◌, ◌≤◌, length, Ok, Err, MatchResult, unsigned_abs};
-ghost use Rattle.ring.specs.Lists.{words_q, words_p, signed};
-ghost use Rattle.rounding.specs.Symbols.{rounded_product, slips, out_of_band};
+ghost use Rattle.std.specs.Prelude.{◌≡◌, ◌+◌, ◌^◌, ◌≤◌, length, Ok, Err, MatchResult};
+ghost use Rattle.ring.specs.Lists.{words_q};
+ghost use Rattle.rounding.specs.Symbols.{out_of_band};
 ghost use Rattle.calls.specs.Areas.{zeros};
 ghost use Rattle.calls.specs.Chains.{Answers};
 ghost use Rattle.lab.specs.Lab.{gauge_checks, gauging, gauged, noise_between};
@@ -40,38 +40,6 @@ fn check_gauge(
     )
 }
 
-// The slips of the rounding of a times a secret.
-fn slips_of(secret: &Secret<'_>, a: &[Coefficient], product: &mut [u16], out: &mut [i32])
-    requires long { length a.now ≡ secret.now.set.now.n }
-    requires room { length product.old ≡ secret.now.set.now.n + 1 }
-    requires out { length out.old ≡ secret.now.set.now.n }
-    ensures value { out.new ≡ slips secret.now.set.now.moduli secret.now.set.now.n (words_q a.now) secret.now.positions.now }
-    ensures near { (k : ℕ) → unsigned_abs (signed out.new k) ≤ 2 ^ 14 }
-{
-    Product::of(a, secret.positions, product).slips(secret.set.moduli, out);
-}
-
-// The same, and the rounded product itself.
-fn rounded_and_slips(
-    secret: &Secret<'_>,
-    a: &[Coefficient],
-    product: &mut [u16],
-    b: &mut [Rounded],
-    out: &mut [i32],
-)
-    requires long { length a.now ≡ secret.now.set.now.n }
-    requires room { length product.old ≡ secret.now.set.now.n + 1 }
-    requires b { length b.old ≡ secret.now.set.now.n }
-    requires out { length out.old ≡ secret.now.set.now.n }
-    ensures rounded { words_p b.new ≡ rounded_product secret.now.set.now.moduli secret.now.set.now.n (words_q a.now) secret.now.positions.now }
-    ensures value { out.new ≡ slips secret.now.set.now.moduli secret.now.set.now.n (words_q a.now) secret.now.positions.now }
-    ensures near { (k : ℕ) → unsigned_abs (signed out.new k) ≤ 2 ^ 14 }
-{
-    let product = Product::of(a, secret.positions, product);
-    product.round(secret.set.moduli, b);
-    product.slips(secret.set.moduli, out);
-}
-
 // The noise between two secrets.
 fn fill_noise(
     a: &[Coefficient],
@@ -89,6 +57,7 @@ fn fill_noise(
     ensures { out.new ≡ noise_between till.now.set.now (words_q a.now) till.now.positions.now station.now.positions.now }
 {
     let n = till.set.n as usize;
+    let moduli = till.set.moduli;
     let mut b = [Rounded(0); MOST];
     let mut till_slips = [0i32; MOST];
     let mut station_slips = [0i32; MOST];
@@ -99,11 +68,13 @@ fn fill_noise(
     let station_slips = &mut station_slips[0..n];
     let first = &mut first[0..n + 1];
     let second = &mut second[0..n + 1];
-    rounded_and_slips(till, a, product, b, till_slips);
-    slips_of(station, a, product, station_slips);
+    let rounded = Product::of(a, till.positions, product);
+    rounded.round(moduli, b);
+    rounded.slips(moduli, till_slips);
+    Product::of(a, station.positions, product).slips(moduli, station_slips);
     multiply_signed(till_slips, station.positions, first);
     multiply_signed(station_slips, till.positions, second);
-    Product::of(b, station.positions, product).noise(till.set.moduli, first, second, out);
+    Product::of(b, station.positions, product).noise(moduli, first, second, out);
 }
 
 // With the parts of the working areas that the set takes. The station's secret has no place in the areas: it is held here, and wiped.
@@ -145,34 +116,6 @@ fn gauge_in<S: Source>(
     Ok(())
 }
 
-// The call without its guards.
-fn gauge_within<S: Source>(
-    set: &Set,
-    source: &mut S,
-    seeds: &[u8],
-    noise: &mut [i32],
-    secret: &mut [u16],
-    product: &mut [u16],
-) -> Result<usize, Refusal>
-    ensures book { S.book source.new ≡ S.book source.old }
-    ensures cases { MatchResult result
-        (λ count. (gauged (S.book source.old) set.now (length noise.old) (length secret.old) (length product.old) seeds.now ≡ Ok noise.new) × (count ≡ out_of_band set.now.moduli noise.new))
-        (λ e. (gauged (S.book source.old) set.now (length noise.old) (length secret.old) (length product.old) seeds.now ≡ Err e) × (noise.new ≡ noise.old)) }
-{
-    check_gauge(set, noise.len(), secret.len(), product.len(), seeds)?;
-    let h = set.h as usize;
-    let words = set.n as usize + 1;
-    gauge_in(
-        set,
-        source,
-        seeds,
-        noise,
-        &mut secret[0..h],
-        &mut product[0..words],
-    )?;
-    Ok(out_of_band(set.moduli, noise))
-}
-
 /// Gauge: fills the buffer with the noise of each symbol between the till's and the station's secret, from σ and their two seeds, and
 /// answers how many symbols are out of band. Both working areas are all zeros on every way out; on a refusal the buffer is as before.
 pub fn gauge<S: Source>(
@@ -192,12 +135,15 @@ pub fn gauge<S: Source>(
 {
     let secret_area = Wiped { area: secret_area };
     let product_area = Wiped { area: product_area };
-    gauge_within(
+    check_gauge(
         set,
-        source,
+        noise.len(),
+        secret_area.area.len(),
+        product_area.area.len(),
         seeds,
-        noise,
-        secret_area.area,
-        product_area.area,
-    )
+    )?;
+    let secret = &mut secret_area.area[0..set.h as usize];
+    let product = &mut product_area.area[0..set.n as usize + 1];
+    gauge_in(set, source, seeds, noise, secret, product)?;
+    Ok(out_of_band(set.moduli, noise))
 }

@@ -11,17 +11,17 @@ use scheme::{Secret, expand_positions};
 use source::Source;
 use wire::Parcel;
 
-// Everything that is tested before any work, in the order of the refusals: answers the parcel that the bytes are.
+// Everything that is tested before any work, in the order of the refusals: answers the parcel and the seed that the bytes are.
 fn check_read<'a>(
     set: &'a Set,
     raw: usize,
     secret_words: usize,
     product_words: usize,
     parcel: &'a [u8],
-    seed: &[u8],
-) -> Result<Parcel<'a>, Refusal>
+    seed: &'a [u8],
+) -> Result<(Parcel<'a>, &'a [u8; 32]), Refusal>
     ensures { MatchResult result
-        (λ p. (p.set.now ≡ set.now) × (p.bytes.now ≡ parcel.now) × (read_checks set.now raw secret_words product_words parcel.now seed.now ≡ Ok tt))
+        (λ r. (r.0.set.now ≡ set.now) × (r.0.bytes.now ≡ parcel.now) × (r.1.now ≡ seed.now) × (read_checks set.now raw secret_words product_words parcel.now seed.now ≡ Ok tt))
         (λ e. read_checks set.now raw secret_words product_words parcel.now seed.now ≡ Err e) }
 {
     expect(
@@ -35,12 +35,9 @@ fn check_read<'a>(
         set.parcel_len(),
         Refusal::WrongInput(Input::First, parcel.len()),
     )?;
-    expect(
-        seed.len(),
-        32,
-        Refusal::WrongInput(Input::Second, seed.len()),
-    )?;
-    Ok(Parcel::check(set, parcel)?)
+    let refusal = Refusal::WrongInput(Input::Second, seed.len());
+    let seed = seed.as_array().ok_or(refusal)?;
+    Ok((Parcel::check(set, parcel)?, seed))
 }
 
 // With the parts of the working areas that the set takes.
@@ -70,45 +67,6 @@ fn read_in<S: Source>(
     Ok(())
 }
 
-// The 32 bytes of a seed whose length was tested.
-fn seed_from(bytes: &[u8]) -> [u8; 32]
-    requires { length bytes.now ≡ 32 }
-    ensures { result ≡ bytes.now }
-{
-    let mut seed = [0u8; 32];
-    seed.copy_from_slice(bytes);
-    seed
-}
-
-// The call without its guards.
-fn read_within<S: Source>(
-    set: &Set,
-    source: &mut S,
-    parcel: &[u8],
-    seed: &[u8],
-    raw: &mut [u8],
-    secret: &mut [u16],
-    product: &mut [u16],
-) -> Result<(), Refusal>
-    ensures book { S.book source.new ≡ S.book source.old }
-    ensures cases { Answers result
-        (raw_read (S.book source.old) set.now (length raw.old) (length secret.old) (length product.old) parcel.now seed.now)
-        raw.new raw.old }
-{
-    let parcel = check_read(set, raw.len(), secret.len(), product.len(), parcel, seed)?;
-    let h = set.h as usize;
-    let words = set.n as usize + 1;
-    read_in(
-        source,
-        &parcel,
-        &seed_from(seed),
-        raw,
-        &mut secret[0..h],
-        &mut product[0..words],
-    )?;
-    Ok(())
-}
-
 /// Raw read: the μ bits, each a byte 0 or 1, that the secret of a seed reads from a parcel, before any correction. Both working areas are
 /// all zeros on every way out; on a refusal the output is as before.
 pub fn raw_read<S: Source>(
@@ -129,13 +87,16 @@ pub fn raw_read<S: Source>(
 {
     let secret_area = Wiped { area: secret_area };
     let product_area = Wiped { area: product_area };
-    read_within(
+    let (parcel, seed) = check_read(
         set,
-        source,
+        raw.len(),
+        secret_area.area.len(),
+        product_area.area.len(),
         parcel,
         seed,
-        raw,
-        secret_area.area,
-        product_area.area,
-    )
+    )?;
+    let secret = &mut secret_area.area[0..set.h as usize];
+    let product = &mut product_area.area[0..set.n as usize + 1];
+    read_in(source, &parcel, seed, raw, secret, product)?;
+    Ok(())
 }
