@@ -1,12 +1,11 @@
 // Raw read.
-ghost use Rattle.std.specs.Prelude.{◌≡◌, ◌+◌, length, Ok, Err, MatchResult};
+ghost use Rattle.std.specs.Prelude.{◌≡◌, length, Ok, Err, MatchResult};
 ghost use Rattle.calls.specs.Areas.{zeros};
 ghost use Rattle.calls.specs.Chains.{Answers};
-ghost use Rattle.lab.specs.Lab.{read_checks, reading, raw_read};
+ghost use Rattle.lab.specs.Lab.{read_checks, raw_read};
 
 use calls::{Buffer, Input, Refusal, Wiped, expect, expect_areas};
 use params::set::Set;
-use sampler::SamplerFault;
 use scheme::{Secret, expand_positions};
 use source::Source;
 use wire::Parcel;
@@ -40,33 +39,6 @@ fn check_read<'a>(
     Ok((Parcel::check(set, parcel)?, seed))
 }
 
-// With the parts of the working areas that the set takes.
-fn read_in<S: Source>(
-    source: &mut S,
-    parcel: &Parcel<'_>,
-    seed: &[u8; 32],
-    raw: &mut [u8],
-    secret: &mut [u16],
-    product: &mut [u16],
-) -> Result<(), SamplerFault>
-    requires out { length raw.old ≡ parcel.now.set.now.code.mu }
-    requires secret { length secret.old ≡ parcel.now.set.now.h }
-    requires product { length product.old ≡ parcel.now.set.now.n + 1 }
-    ensures book { S.book source.new ≡ S.book source.old }
-    ensures cases { MatchResult result
-        (λ _. reading (S.book source.old) parcel.now.set.now seed.now parcel.now.bytes.now ≡ Ok raw.new)
-        (λ e. (reading (S.book source.old) parcel.now.set.now seed.now parcel.now.bytes.now ≡ Err e) × (raw.new ≡ raw.old)) }
-{
-    let set = parcel.set;
-    expand_positions(set, source, seed, secret)?;
-    let secret = Secret {
-        set,
-        positions: secret,
-    };
-    secret.read_parcel_bits(parcel, product, raw);
-    Ok(())
-}
-
 /// Raw read: the μ bits, each a byte 0 or 1, that the secret of a seed reads from a parcel, before any correction. Both working areas are
 /// all zeros on every way out; on a refusal the output is as before.
 pub fn raw_read<S: Source>(
@@ -97,6 +69,11 @@ pub fn raw_read<S: Source>(
     )?;
     let secret = &mut secret_area.area[0..set.h as usize];
     let product = &mut product_area.area[0..set.n as usize + 1];
-    read_in(source, &parcel, seed, raw, secret, product)?;
+    expand_positions(set, source, seed, secret)?;
+    let secret = Secret {
+        set,
+        positions: secret,
+    };
+    secret.read_parcel_bits(&parcel, product, raw);
     Ok(())
 }
