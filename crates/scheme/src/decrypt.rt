@@ -2,13 +2,11 @@
 ghost use Rattle.std.specs.Prelude.{◌≡◌, ◌+◌, ◌/◌, length};
 ghost use Rattle.scheme.specs.Scheme.{bits_in, message_in};
 
+use crate::MOST;
 use crate::secret::Secret;
 use code::correct;
-use params::MOST_N;
 use ring::{Rounded, Symbol};
 use wire::Parcel;
-
-const MOST: usize = MOST_N as usize;
 
 impl Secret<'_> {
     /// The raw bits of a parcel. Raw read and open lend n + 1 words and μ bytes.

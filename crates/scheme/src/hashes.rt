@@ -27,6 +27,7 @@ fn hash_pair<'x>(label: u8, first: &'x [u8], second: &'x [u8], out: &mut [u8])
     hash(label, &[first, second], out);
 }
 
+#[tactic(auto, unfolding(crate::specs::Scheme::sealing_bytes))]
 fn hash_sealing(message: &[u8], key: &[u8]) -> [u8; 96]
     ensures { result ≡ sealing_bytes message.now key.now }
 {
@@ -52,6 +53,7 @@ pub fn station_seed(message: &[u8], key: &[u8]) -> [u8; 32]
 }
 
 /// The secret that 32 bytes and a parcel give. Seal and open have tested that its buffer holds 32 bytes.
+#[tactic(auto, unfolding(crate::specs::Scheme::secret_from))]
 pub fn secret_from(l: &[u8; 32], parcel: &[u8], out: &mut [u8])
     requires { length out.old ≡ 32 }
     ensures { out.new ≡ secret_from l.now parcel.now }

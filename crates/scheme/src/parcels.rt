@@ -4,17 +4,15 @@ ghost use Rattle.params.specs.Sizes.{parcel_length};
 ghost use Rattle.ring.specs.Lists.{words_q, words_p};
 ghost use Rattle.scheme.specs.Scheme.{encrypted, l_of, parcel_from};
 
+use crate::MOST;
 use crate::expand::expand_positions;
 use crate::hashes::sealing_of;
 use crate::secret::Secret;
-use params::MOST_N;
 use params::set::Set;
 use ring::{Coefficient, Rounded, Symbol};
 use sampler::SamplerFault;
 use source::Source;
 use wire::write_parcel;
-
-const MOST: usize = MOST_N as usize;
 
 impl Secret<'_> {
     // Writes the parcel of a message, with the station's secret: u, the rounded reduced product of a and the secret, and the symbols v that

@@ -1,16 +1,18 @@
-// The products of the scheme. The product area holds n + 1 words.
+// The products of the scheme.
+// Kept: that the product area holds n + 1 words is asked here of a slice. Every call writes to it, so a struct around it would have to promise at
+// each that its set is as before, which says more than the length does.
+// Kept: the lengths of a, b and u likewise. A struct around each would hold the set again, and each product would ask that its set is the
+// secret's.
 ghost use Rattle.std.specs.Prelude.{◌≡◌, ◌+◌, ◌/◌, length};
 ghost use Rattle.ring.specs.Lists.{words_q, words_p, words_t};
 ghost use Rattle.code.specs.Words.{code_word};
 ghost use Rattle.rounding.specs.Symbols.{rounded_product, cross_product, symbols, raw_bits};
 
+use crate::MOST;
 use crate::secret::Secret;
 use code::encode;
-use params::MOST_N;
 use ring::{Coefficient, Rounded, Symbol};
 use rounding::Product;
-
-const MOST: usize = MOST_N as usize;
 
 impl Secret<'_> {
     /// The rounded reduced product of a and the secret. Publish, seal and open lend n + 1 words and n coefficients.
