@@ -26,6 +26,7 @@ impl Secret<'_> {
     }
 
     /// The message that is found in a parcel. Open lends n + 1 words and κ/8 bytes.
+    #[tactic(auto, using(rounding::proofs::Below::raw_bits_le))]
     pub fn find_message(&self, parcel: &Parcel<'_>, product: &mut [u16], message: &mut [u8])
         requires same { parcel.now.set.now ≡ self.now.set.now }
         requires room { length product.old ≡ self.now.set.now.n + 1 }

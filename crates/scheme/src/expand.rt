@@ -10,6 +10,7 @@ use sampler::{SamplerFault, expand_public, expand_secret};
 use source::Source;
 
 // Words as coefficients before rounding.
+#[tactic(auto, using(crate::proofs::Lists::coefficient_words))]
 fn coefficients(words: &[u16], out: &mut [Coefficient])
     requires { length out.old ≡ length words.now }
     ensures { words_q out.new ≡ words.now }

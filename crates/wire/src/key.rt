@@ -90,6 +90,7 @@ impl<'a> Key<'a> {
     }
 
     // Reads the parts of the key. Every call lends n coefficients.
+    #[tactic(auto, using(crate::proofs::KeyLaws::key_content_kind))]
     pub fn read(&self, seed: &mut [u8; 32], b: &mut [Rounded])
         requires { length b.old ≡ self.now.set.now.n }
         ensures seed { seed.new ≡ key_seed self.now.bytes.now }

@@ -98,6 +98,7 @@ impl<'a> Parcel<'a> {
     }
 
     // Reads the parts of the parcel. Every call lends n coefficients and μ symbols.
+    #[tactic(auto, using(crate::proofs::ParcelLaws::parcel_content_kind))]
     pub fn read(&self, u: &mut [Rounded], v: &mut [Symbol], tag: &mut [u8; 32])
         requires first { length u.old ≡ self.now.set.now.n }
         requires second { length v.old ≡ self.now.set.now.code.mu }

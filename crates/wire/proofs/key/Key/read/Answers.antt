@@ -1,13 +1,10 @@
-use Rattle.std.proofs.Common.{length, take, drop, subst, ap, ◌∙◌, arith, rules}
+use Rattle.std.proofs.Common.{length, take, drop, subst, ap, ◌∙◌, arith}
 use Rattle.std.proofs.lemmas.Slice.{between_to_end}
 use Rattle.pack.specs.Bits.{Below}
 use Rattle.pack.specs.Packing.{fields_at}
 use Rattle.wire.specs.Keys.{key_seed, key_b}
-use Rattle.wire.proofs.KeyLaws.{key_content_kind, key_read}
+use Rattle.wire.proofs.KeyLaws.{key_read}
 use Rattle.wire.proofs.key.Key.read.Goals as goal
-
-pub unreachable-requires : goal.unreachable-requires
-unreachable-requires c = search (rules, key_content_kind)
 
 pub returns : goal.returns
 unfolding key_seed key_b

@@ -1,13 +1,10 @@
-use Rattle.std.proofs.Common.{◌-◌, ◌*◌, length, subst, drop, ap, ◌∙◌, arith, rules}
+use Rattle.std.proofs.Common.{◌-◌, ◌*◌, length, subst, drop, ap, ◌∙◌, arith}
 use Rattle.std.proofs.lemmas.Slice.{between_to_end}
 use Rattle.pack.specs.Bits.{Below}
 use Rattle.pack.specs.Packing.{fields_at}
 use Rattle.wire.specs.Parcels.{parcel_u, parcel_v, parcel_tag, run_of}
-use Rattle.wire.proofs.ParcelLaws.{parcel_content_kind, parcel_read}
+use Rattle.wire.proofs.ParcelLaws.{parcel_read}
 use Rattle.wire.proofs.parcel.Parcel.read.Goals as goal
-
-pub unreachable-requires : goal.unreachable-requires
-unreachable-requires c = search (rules, parcel_content_kind)
 
 pub returns : goal.returns
 unfolding parcel_u parcel_v parcel_tag
