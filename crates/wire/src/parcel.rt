@@ -12,6 +12,7 @@ use params::set::Set;
 use ring::{Rounded, Symbol};
 
 // Writes the parcel of u, v and a tag. Every call hands n coefficients and a symbol for each of μ, and lends a parcel's bytes.
+#[tactic(auto, using(crate::proofs::Parts::put_parts), unfolding(crate::specs::Parcels::parcel_bytes))]
 pub fn write_parcel(set: &Set, u: &[Rounded], v: &[Symbol], tag: &[u8; 32], out: &mut [u8])
     requires first { length u.now ≡ set.now.n }
     requires second { length v.now ≡ set.now.code.mu }
