@@ -78,6 +78,7 @@ fn fill_noise(
 }
 
 // With the parts of the working areas that the set takes. The station's secret has no place in the areas: it is held here, and wiped.
+// Kept: the parts are slices of h and of n + 1 words, since a struct around them would promise at each call that its set is as before.
 fn gauge_in<S: Source>(
     set: &Set,
     source: &mut S,

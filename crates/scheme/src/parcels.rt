@@ -45,6 +45,7 @@ impl Secret<'_> {
 
 /// Seals a message to a key whose polynomials are a and b: writes the parcel, and answers l, from which the secret comes. Seal and open have
 /// tested or made all of these lengths.
+// Kept: the areas are slices of h and of n + 1 words, since a struct around them would promise at each call that its set is as before.
 pub fn encrypt<S: Source>(
     set: &Set,
     source: &mut S,

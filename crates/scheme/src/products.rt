@@ -1,8 +1,6 @@
 // The products of the scheme.
-// Kept: that the product area holds n + 1 words is asked here of a slice. Every call writes to it, so a struct around it would have to promise at
-// each that its set is as before, which says more than the length does.
-// Kept: the lengths of a, b and u likewise. A struct around each would hold the set again, and each product would ask that its set is the
-// secret's.
+// Kept: the product area is a slice of n + 1 words, since a struct around it would promise at each call that its set is as before.
+// Kept: a, b and u are slices of n, since a struct around each would hold a set, and each product would ask that it is the secret's.
 ghost use Rattle.std.specs.Prelude.{◌≡◌, ◌+◌, ◌/◌, length};
 ghost use Rattle.ring.specs.Lists.{words_q, words_p, words_t};
 ghost use Rattle.code.specs.Words.{code_word};

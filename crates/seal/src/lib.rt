@@ -53,6 +53,7 @@ fn check_seal<'a>(
 }
 
 // With the parts of the working areas that the set takes.
+// Kept: these are slices of h and of n + 1 words, since a struct around them would promise at each call that its set is as before.
 fn seal_in<S: Source>(
     source: &mut S,
     key: &Key<'_>,
