@@ -13,6 +13,7 @@ fn word_of(bytes: [u8; 4]) -> u32
 }
 
 // What is left to read: the bits held, which are the `held` low ones of `acc`, and then those of the bytes ahead.
+// `fields` makes the only ones, over as many bytes as the run takes, so that no field is missing.
 #[derive(Drop)]
 pub struct BitReader<'a> {
     ahead: &'a [u8],

@@ -7,6 +7,7 @@ use crate::field::Field;
 use params::moduli::Moduli;
 
 // What is written: the first `at` bytes of `out`, and then the bits held, which are the `held` low ones of `acc`.
+// `pack` makes the only ones, over as many bytes as the run takes, so that there is room for each field.
 #[derive(Drop)]
 pub struct BitWriter<'a> {
     out: &'a mut [u8],
