@@ -1,5 +1,5 @@
 -- What four places of C hold, and what becomes of them.
-use Rattle.std.proofs.Common.{◌≡◌, ℕ, ◌<◌, true, false, cond, leb, List, [], ◌∷◌, length, get_or, set, Ok, Err, sym, refl, ap, ◌∙◌, arith, Option, Some, None}
+use Rattle.std.proofs.Common.{◌≡◌, ℕ, ◌<◌, true, false, cond, leb, List, length, get_or, set, Ok, Err, sym, refl, ap, ◌∙◌, arith, Option, Some, None}
 use Rattle.std.proofs.lemmas.List.{get_or-map, map-set}
 use Rattle.std.proofs.lemmas.Bool.{lt-leb}
 use Rattle.params.specs.declared.set.Set.{Set}
@@ -10,15 +10,6 @@ use Rattle.keyseal.specs.Places.{record_of, records, in_use, with_coins, cleared
 use Rattle.keyseal.specs.declared.layout.Place.{Place}
 use Rattle.rack.specs.declared.record.Coins.{Coins}
 use Rattle.keyseal.proofs.Steps.{bind_ok}
-
--- the records of four places, one by one
-pub four_records : (d : Place) (ps : List Place) → length ps ≡ 4 → records ps ≡ record_of (get_or ps 0 d) ∷ record_of (get_or ps 1 d) ∷ record_of (get_or ps 2 d) ∷ record_of (get_or ps 3 d) ∷ []
-four_records d [] h = absurd (omega arith)
-four_records d (a ∷ []) h = absurd (omega arith)
-four_records d (a ∷ b ∷ []) h = absurd (omega arith)
-four_records d (a ∷ b ∷ e ∷ []) h = absurd (omega arith)
-four_records d (a ∷ b ∷ e ∷ f ∷ []) h = refl
-four_records d (a ∷ b ∷ e ∷ f ∷ g ∷ more) h = absurd (omega arith)
 
 -- a place that there is, retired by the record that it has
 retired_by : (rs : Places) (i : ℕ) (p : Option Coins) → i < place_count → at rs i ≡ p → retired rs i ≡ bind (held i p) (λ _. Ok (set rs i None))

@@ -14,6 +14,7 @@ use crate::told::{refuse, tell};
 use calls::Refusal;
 use lab::{gauge, raw_read};
 use params::set::Set;
+use source::Source;
 
 /// The raw bits that the secret of a seed reads from a parcel.
 #[unsafe(no_mangle)]
@@ -52,10 +53,9 @@ pub extern "C" fn keyseal_raw_read(
 }
 
 // Gauge, on a set that was made; the count goes out too.
-fn gauge_on(
+fn gauge_on<S: Source>(
     set: &Set,
-    tape: &[u8],
-    taped: bool,
+    source: &mut S,
     seeds: &[u8],
     noise: &mut [i32],
     out_of_band: &mut u32,
@@ -65,17 +65,10 @@ fn gauge_on(
     ensures secret_wiped { secret_area.new ≡ zeros secret_area.old }
     ensures product_wiped { product_area.new ≡ zeros product_area.old }
     ensures cases { Answers result
-        (gauged_and_counted (book_of tape.now taped) set.now (length noise.old) (length secret_area.old) (length product_area.old) seeds.now)
+        (gauged_and_counted (S.book source.old) set.now (length noise.old) (length secret_area.old) (length product_area.old) seeds.now)
         (counted noise.new out_of_band.new) (counted noise.old out_of_band.old) }
 {
-    let count = gauge(
-        set,
-        &mut bytes_from(tape, taped),
-        seeds,
-        noise,
-        secret_area,
-        product_area,
-    )?;
+    let count = gauge(set, source, seeds, noise, secret_area, product_area)?;
     *out_of_band = count as u32;
     Ok(())
 }
@@ -104,8 +97,7 @@ pub extern "C" fn keyseal_gauge(
         Ok(set) => {
             let outcome = gauge_on(
                 &set,
-                tape,
-                taped,
+                &mut bytes_from(tape, taped),
                 seeds,
                 noise,
                 out_of_band,

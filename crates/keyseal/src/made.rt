@@ -9,6 +9,7 @@ use params::proposal::{Proposal, SetFault};
 use params::set::Set;
 
 // The set of the numbers and check lengths given.
+// Kept: of what a closure writes nothing is known once a function has taken it, so each exported call matches on its set.
 pub(crate) fn make_set(numbers: &Numbers, lengths: &[u16]) -> Result<Set, SetFault>
     ensures { Makes (proposal_of numbers.now lengths.entry) result }
 {

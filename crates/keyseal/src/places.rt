@@ -2,12 +2,27 @@
 ghost use Rattle.std.specs.Prelude.{◌≡◌, ◌<◌, length};
 ghost use Rattle.calls.specs.Chains.{Answers};
 ghost use Rattle.rack.specs.Calls.{place_count, coins_from, retired};
-ghost use Rattle.keyseal.specs.Places.{record_of, records, coins_alone, with_coins, emptied};
+ghost use Rattle.keyseal.specs.Places.{record_of, records, in_use, coins_alone, with_coins, emptied};
 ghost use Rattle.keyseal.specs.Told.{if_done};
 
 use crate::layout::Place;
 use calls::Refusal;
 use rack::{Coins, PLACES, Record};
+
+impl Place {
+    // A place not in use.
+    const EMPTY: Place = Place {
+        held: false,
+        coins: [0; 96],
+    };
+
+    // A place in use with these coins.
+    fn with(coins: [u8; 96]) -> Place
+        ensures { result ≡ in_use coins }
+    {
+        Place { held: true, coins }
+    }
+}
 
 // The coins that stand in 96 bytes.
 fn coins_of(bytes: &[u8; 96]) -> Coins
@@ -26,23 +41,14 @@ fn coins_of(bytes: &[u8; 96]) -> Coins
 fn record_of(place: &Place) -> Record
     ensures { result ≡ record_of place.now }
 {
-    if place.held {
-        Some(coins_of(&place.coins))
-    } else {
-        None
-    }
+    place.held.then(|| coins_of(&place.coins))
 }
 
 // What the places hold.
 pub(crate) fn records_of(places: &[Place; PLACES]) -> [Record; PLACES]
     ensures { result ≡ records places.now }
 {
-    [
-        record_of(&places[0]),
-        record_of(&places[1]),
-        record_of(&places[2]),
-        record_of(&places[3]),
-    ]
+    places.map(|place| record_of(&place))
 }
 
 // Puts coins into a place.
@@ -53,10 +59,7 @@ pub(crate) fn keep(places: &mut [Place; PLACES], place: u8, coins: &[u8])
 {
     let mut held = [0u8; 96];
     held.copy_from_slice(coins);
-    places[place as usize] = Place {
-        held: true,
-        coins: held,
-    };
+    places[place as usize] = Place::with(held);
 }
 
 // Retire: writes zeros over a place in use.
@@ -71,10 +74,7 @@ pub(crate) fn retire(places: &mut [Place; PLACES], place: u8) -> Result<(), Refu
     if !places[at].held {
         return Err(Refusal::EmptyPlace(place));
     }
-    places[at] = Place {
-        held: false,
-        coins: [0; 96],
-    };
+    places[at] = Place::EMPTY;
     Ok(())
 }
 
@@ -82,13 +82,7 @@ pub(crate) fn retire(places: &mut [Place; PLACES], place: u8) -> Result<(), Refu
 pub(crate) fn alone(coins: &[u8; 96]) -> [Place; PLACES]
     ensures { records result ≡ coins_alone coins.now }
 {
-    let empty = Place {
-        held: false,
-        coins: [0; 96],
-    };
-    let first = Place {
-        held: true,
-        coins: *coins,
-    };
+    let first = Place::with(*coins);
+    let empty = Place::EMPTY;
     [first, empty, empty, empty]
 }

@@ -3,34 +3,28 @@ ghost use Rattle.std.specs.Prelude.{◌≡◌, length, if◌then◌else◌, nat_
 ghost use Rattle.calls.specs.Areas.{zeros};
 ghost use Rattle.calls.specs.Chains.{Answers};
 ghost use Rattle.rack.specs.Calls.{issued, published, opened, retired};
-ghost use Rattle.sponge.specs.Book.{sponge_book};
 ghost use Rattle.keyseal.specs.Exported.{proposal_of, Exported, Tells};
-ghost use Rattle.keyseal.specs.Origin.{origin_book, book_of};
+ghost use Rattle.keyseal.specs.Origin.{book_of};
 ghost use Rattle.keyseal.specs.Places.{records, coins_alone, with_coins, emptied};
 ghost use Rattle.keyseal.specs.Told.{if_done};
 
 use crate::layout::{Numbers, Place};
 use crate::made::make_set;
-use crate::origin::{Origin, bytes_from};
+use crate::origin::bytes_from;
 use crate::places::{alone, keep, records_of, retire};
 use crate::told::{refuse, tell};
 use calls::Refusal;
-use kit::KitSource;
 use params::set::Set;
 use rack::{PLACES, Rack};
+use source::Source;
 
 // A rack with the caller's places.
-fn rack_from<'a>(
-    set: Set,
-    tape: &'a [u8],
-    taped: bool,
-    places: &[Place; PLACES],
-) -> Rack<Origin<'a, KitSource>>
+fn rack_from<S: Source>(set: Set, source: S, places: &[Place; PLACES]) -> Rack<S>
     ensures numbers { result.set ≡ set }
-    ensures book { origin_book (λ _. sponge_book) result.source ≡ book_of tape.now taped }
+    ensures source { result.source ≡ source }
     ensures places { result.places ≡ records places.now }
 {
-    Rack::resume(set, bytes_from(tape, taped), records_of(places))
+    Rack::resume(set, source, records_of(places))
 }
 
 /// Writes the key of the coins at a place.
@@ -54,7 +48,7 @@ pub extern "C" fn keyseal_publish(
 {
     match make_set(numbers, lengths) {
         Ok(set) => {
-            let mut rack = rack_from(set, tape, taped, places);
+            let mut rack = rack_from(set, bytes_from(tape, taped), places);
             let outcome = rack.publish(place, key, secret_area, product_area);
             tell(outcome, refusal)
         }
@@ -84,7 +78,7 @@ pub extern "C" fn keyseal_open(
 {
     match make_set(numbers, lengths) {
         Ok(set) => {
-            let mut rack = rack_from(set, tape, taped, places);
+            let mut rack = rack_from(set, bytes_from(tape, taped), places);
             let outcome = rack.open(place, parcel, secret, secret_area, product_area);
             tell(outcome, refusal)
         }
@@ -93,10 +87,9 @@ pub extern "C" fn keyseal_open(
 }
 
 // Issue, on a set that was made.
-fn issue_on(
+fn issue_on<S: Source + Drop>(
     set: Set,
-    tape: &[u8],
-    taped: bool,
+    source: S,
     places: &mut [Place; PLACES],
     place: u8,
     coins: &[u8],
@@ -106,11 +99,11 @@ fn issue_on(
     ensures secret_wiped { secret_area.new ≡ zeros secret_area.old }
     ensures product_wiped { product_area.new ≡ zeros product_area.old }
     ensures cases { Answers result
-        (issued (book_of tape.now taped) set (records places.old) place (length secret_area.old) (length product_area.old) coins.now)
+        (issued (S.book source) set (records places.old) place (length secret_area.old) (length product_area.old) coins.now)
         (records places.new) (records places.old) }
     ensures bytes { places.new ≡ if_done result (with_coins places.old place coins.now) places.old }
 {
-    let mut rack = rack_from(set, tape, taped, places);
+    let mut rack = rack_from(set, source, places);
     rack.issue(place, coins, secret_area, product_area)?;
     keep(places, place, coins);
     Ok(())
@@ -140,8 +133,7 @@ pub extern "C" fn keyseal_issue(
         Ok(set) => {
             let outcome = issue_on(
                 set,
-                tape,
-                taped,
+                bytes_from(tape, taped),
                 places,
                 place,
                 coins,

@@ -28,9 +28,9 @@ pub(crate) fn tell(outcome: Result<(), Refusal>, refusal: &mut [u64; 4]) -> u32
 pub(crate) fn tell_fault(fault: SetFault, refusal: &mut [u64; 4]) -> u32
     ensures { Says result refusal.new (refusal_numbers fault) }
 {
-    let words = fault.numbers();
-    *refusal = [words[0] as u64, words[1] as u64, words[2] as u64, 0];
-    words[0] as u32
+    let [number, first, second] = fault.numbers();
+    *refusal = [number.into(), first.into(), second.into(), 0];
+    number.into()
 }
 
 // The same for a call that has working areas: both are zeros then too.

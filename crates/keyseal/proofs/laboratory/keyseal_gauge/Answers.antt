@@ -10,7 +10,7 @@ returns-in-Ok c =
     record {
       secret_wiped = done.secret_wiped;
       product_wiped = done.product_wiped;
-      answer = exported {is = counted c.gauge_on-outcome.new.noise c.gauge_on-outcome.new.out_of_band} c.in-Ok.set c.gauge_on-outcome.result c.in-Ok.ensures done.cases c.tell.ensures;
+      answer = exported {is = counted c.gauge_on-outcome.new.noise c.gauge_on-outcome.new.out_of_band} c.in-Ok.set c.gauge_on-outcome.result c.in-Ok.ensures (rw c.bytes_from.ensures at done.cases) c.tell.ensures;
     }
 
 pub returns-in-Err : goal.returns-in-Err

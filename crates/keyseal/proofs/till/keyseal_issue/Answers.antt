@@ -11,7 +11,7 @@ returns-in-Ok c =
     record {
       secret_wiped = done.secret_wiped;
       product_wiped = done.product_wiped;
-      answer = exported c.in-Ok.set c.issue_on-outcome.result c.in-Ok.ensures done.cases c.tell.ensures;
+      answer = exported c.in-Ok.set c.issue_on-outcome.result c.in-Ok.ensures (rw c.bytes_from.ensures at done.cases) c.tell.ensures;
       bytes = by_number c.issue_on-outcome.result (with_coins a.places.now a.place a.coins.now) a.places.now done.bytes c.tell.ensures;
     }
 

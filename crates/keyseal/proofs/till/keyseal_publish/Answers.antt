@@ -10,7 +10,7 @@ returns-in-Ok c =
     record {
       secret_wiped = done.secret_wiped;
       product_wiped = done.product_wiped;
-      answer = exported c.in-Ok.set c.publish-outcome.result c.in-Ok.ensures (rw (rack.numbers, rack.book, rack.places) at done.cases) c.tell.ensures;
+      answer = exported c.in-Ok.set c.publish-outcome.result c.in-Ok.ensures (rw (rack.numbers, rack.source, c.bytes_from.ensures, rack.places) at done.cases) c.tell.ensures;
     }
 
 pub returns-in-Err : goal.returns-in-Err
