@@ -40,6 +40,7 @@ pub enum Refusal {
     Short(SamplerFault),
 }
 
+// Kept: the fault of each layer below stays whole and is turned by a From of its own.
 impl From<SamplerFault> for Refusal {
     ghost from_gives = { λ fault refusal. refusal ≡ Short fault };
 

@@ -16,6 +16,7 @@ pub trait Field: Residue {
     ghost narrow: { (m : Moduli) → width m ≤ 15 };
 }
 
+// Kept: the two sorts differ in the width that they name, which is all that their impls say.
 impl Field for Rounded {
     ghost width = { λ m. m.pb };
 

@@ -1,4 +1,4 @@
-// Commutative groups, and the two that words form when their sums wrap.
+// Commutative groups: the one that residues form, of whatever sort, and that of signed words, when their sums wrap.
 ghost use Rattle.std.specs.Prelude.{◌≡◌, ◌^◌, ◌<◌, pos, ◌+ℤ◌, ◌-ℤ◌, if◌then◌else◌, FitsSigned};
 ghost use Rattle.std.proofs.Common.{sym, ap, ◌∙◌, rules};
 ghost use Rattle.ring.specs.GroupLaws.{GroupLaws};
@@ -29,6 +29,7 @@ pub trait Group: Copy {
         ensures { result ≡ minus self other };
 
     // The other is subtracted or added.
+    // Kept: a bool for the sign; with a closure in its place each clause of the product would have to say which of the two operations it is.
     fn step(self, other: Self, subtract: bool) -> Self
         ensures { result ≡ (if subtract then minus else plus) self other }
     {

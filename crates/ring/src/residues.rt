@@ -1,8 +1,8 @@
-// Words that stand for residues: of a word and of the three sorts of coefficient the kit's lists are made.
+// Residues: what is a word of 16 bits, by itself or as a sort of its own. Each forms a group, and is a sort that the product takes.
 ghost use Rattle.std.specs.Prelude.{◌≡◌, ℕ};
 ghost use Rattle.std.proofs.Common.{rules};
 
-// A word of 16 bits, or a type of its own around one.
+// A word of 16 bits, or a type of its own around one. `bare` is the word, and `made` the value that has it.
 pub trait Residue: Copy {
     ghost bare: { Self → ℕ };
 

@@ -19,6 +19,7 @@ pub struct Rounded(pub u16);
 #[derive(Clone, Copy, PartialEq, Eq, Debug)]
 pub struct Symbol(pub u16);
 
+// Kept: the sorts are three structs, so each says for itself how it is a word; an impl may not be written by a macro.
 impl Residue for Coefficient {
     ghost bare = { λ x. x.0 };
 

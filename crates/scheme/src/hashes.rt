@@ -6,6 +6,7 @@ ghost use Rattle.scheme.specs.Scheme.{sealing_bytes, secret_from, l_of, tag_of, 
 use calls::thirds;
 use shake::hash;
 
+// Kept: two labels, each the first byte of one hash; an enum would be cast to that byte at both places.
 // The label of the hash of a message and a key.
 const SEALING_LABEL: u8 = 0x10;
 
