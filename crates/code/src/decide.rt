@@ -2,7 +2,7 @@
 ghost use Rattle.std.specs.Prelude.{◌≡◌, ℕ, ◌+◌, ◌-◌, ◌*◌, ◌<◌, ◌≤◌, length, if◌then◌else◌, nat_le, slice_index};
 ghost use Rattle.params.specs.Limits.{most_n, most_flips, most_checks, most_kappa};
 ghost use Rattle.params.specs.Sums.{bit};
-ghost use Rattle.code.specs.Words.{Bits, FirstBits, Agree, check_offset};
+ghost use Rattle.code.specs.Words.{Bits, FirstBits, check_offset};
 ghost use Rattle.code.specs.Correcting.{number, byte_of};
 ghost use Rattle.code.specs.Compared.{Compared, votes, decided_bit};
 
@@ -16,17 +16,6 @@ const LONGEST_WORD: usize = MOST_N as usize;
 
 // The longest payload, in bits.
 const LONGEST_PAYLOAD: usize = MOST_KAPPA as usize;
-
-// Check bits, with zeros after them.
-fn padded(bits: &[u8]) -> [u8; LONGEST_WORD]
-    requires { length bits.now ≤ most_n }
-    ensures room { length result ≡ most_n }
-    ensures same { Agree (length bits.now) result bits.now }
-{
-    let mut room = [0; LONGEST_WORD];
-    room[..bits.len()].copy_from_slice(bits);
-    room
-}
 
 // A received word, compared: the payload as received, and for each check bit 1 if it differs from the one worked out, else 0.
 #[derive(Drop)]
@@ -49,7 +38,8 @@ impl<'a> ComparedWord<'a> {
         ensures compared { Compared code.now.shape received.now result.payload.now result.checks }
     {
         let (payload, received_checks) = received.split_at(code.shape.kappa as usize);
-        let mut checks = padded(received_checks);
+        let mut checks = [0; LONGEST_WORD];
+        checks[..received_checks.len()].copy_from_slice(received_checks);
         add_checks(code, payload, &mut checks);
         ComparedWord {
             code,

@@ -64,6 +64,7 @@ impl<'a> Trial<'a> {
     fn try_flips(&mut self, from: usize, tally: &mut Tally)
         ensures { length self.new.word.now ≡ length self.old.word.now }
     {
+        // Kept: each turn flips one place and tries the whole word, so no element can be lent over it.
         for at in from..self.word.len() {
             self.flip(at);
             self.try_word(tally);
@@ -73,6 +74,7 @@ impl<'a> Trial<'a> {
 
     // Tries the word with two flips.
     fn try_pairs(&mut self, tally: &mut Tally) {
+        // Kept: as in try_flips, each turn needs the whole word.
         for at in 0..self.word.len() {
             self.flip(at);
             self.try_flips(at + 1, tally);
