@@ -56,6 +56,7 @@ impl<'a> Check<'a> {
     }
 
     // Adds a payload to the bits of the check.
+    #[tactic(auto, using(crate::proofs::Places::bit_inside))]
     pub(crate) fn add_payload(&self, payload: &[u8], checks: &mut [u8])
         requires whole { length payload.now ≡ self.now.code.now.shape.kappa }
         requires payload { FirstBits self.now.code.now.shape.kappa payload.now }
@@ -73,6 +74,7 @@ impl<'a> Check<'a> {
     }
 
     // Counts, for each payload position, whether its bit differs in the check.
+    #[tactic(auto, using(crate::proofs::Places::bit_inside))]
     pub(crate) fn add_votes(&self, checks: &[u8], votes: &mut [u8])
         requires room { let s = self.now.code.now.shape in check_offset s (2 * s.f) ≤ length checks.now }
         requires bits { let s = self.now.code.now.shape in FirstBits (check_offset s (2 * s.f)) checks.now }

@@ -14,15 +14,6 @@ loop-k-init c =
       check = λ q h. tally_none check.code.now.shape c.args.payload.now c.args.checks.now check.from check.j q (c.requires.check q h);
     }
 
-pub overflow_add-checks : goal.overflow_add-checks
-overflow_add-checks c = let check = c.args.self.now in omega (arith, bit_inside check.code.now check.j c.loop-k.k check.known (omega arith), c.loop-k.invariant.place, check.begins)
-
-pub bounds-checks-self : goal.bounds-checks-self
-bounds-checks-self c = let check = c.args.self.now in omega (arith, bit_inside check.code.now check.j c.loop-k.k check.known (omega arith), c.loop-k.invariant.place, check.begins)
-
-pub bounds-checks-self-in-loop-k : goal.bounds-checks-self-in-loop-k
-bounds-checks-self-in-loop-k c = let check = c.args.self.now in omega (arith, bit_inside check.code.now check.j c.loop-k.k check.known (omega arith), c.loop-k.invariant.place, check.begins)
-
 pub loop-k-preserved : goal.loop-k-preserved
 loop-k-preserved c =
     let check = c.args.self.now in

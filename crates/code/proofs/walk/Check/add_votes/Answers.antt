@@ -2,19 +2,6 @@ use Rattle.std.proofs.Common.{◌+◌, get_or, ◌∙◌, ap₂, arith, get_or-s
 use Rattle.code.proofs.Places.{bit_inside}
 use Rattle.code.proofs.walk.Check.add_votes.Goals as goal
 
-pub overflow_add-count : goal.overflow_add-count
-overflow_add-count c = let check = c.args.self.now in omega (arith, bit_inside check.code.now check.j c.loop-k.k check.known (omega arith), c.loop-k.invariant.place, check.begins)
-
-pub bounds-checks-self : goal.bounds-checks-self
-bounds-checks-self c = let check = c.args.self.now in omega (arith, bit_inside check.code.now check.j c.loop-k.k check.known (omega arith), c.loop-k.invariant.place, check.begins)
-
-pub overflow_add-count-in-loop-k : goal.overflow_add-count-in-loop-k
-overflow_add-count-in-loop-k c =
-    let check = c.args.self.now in
-    let k = c.loop-k.k in
-    let inside = bit_inside check.code.now check.j k check.known (omega arith) in
-    omega (arith, c.requires.bits (check.from + c.loop-k.place) (omega (arith, c.loop-k.invariant.place, check.begins)), c.loop-k.invariant.others k (omega arith), c.requires.few k (omega arith))
-
 pub loop-k-preserved : goal.loop-k-preserved
 loop-k-preserved c =
     let check = c.args.self.now in
