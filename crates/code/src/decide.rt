@@ -49,6 +49,7 @@ impl<'a> ComparedWord<'a> {
     }
 
     // Adds the votes of all checks to counts that are 0.
+    #[tactic(auto, using(params::proofs::Sums::sum_none, params::proofs::Sums::sum_more))]
     fn add_votes(&self, counts: &mut [u8])
         requires whole { length counts.old ≡ self.now.code.now.shape.kappa }
         requires clear { (k : ℕ) → k < self.now.code.now.shape.kappa → slice_index counts.old k ≡ 0 }
@@ -113,6 +114,7 @@ fn decided(f: u16, received: u8, differing: u8) -> u8
 }
 
 // The byte of eight payload bits, as they are decided.
+#[tactic(auto, using(crate::proofs::Numbers::number_none))]
 fn decided_byte(f: u16, received: &[u8], differing: &[u8]) -> u8
     requires eight { (length received.now ≡ 8) × (length differing.now ≡ 8) }
     requires small { FirstBits 8 received.now }

@@ -43,6 +43,7 @@ impl<'a> Check<'a> {
     }
 
     // The place of position k + 1, from that of position k. Only a check by blocks divides.
+    #[tactic(auto, using(crate::proofs::Places::place_wraps, crate::proofs::Places::place_steps, params::proofs::Places::place_inside))]
     fn next_place(&self, k: usize, place: usize) -> usize
         requires inside { k < self.now.code.now.shape.kappa }
         requires at { place ≡ place_of self.now.code.now.shape self.now.j k }
@@ -56,7 +57,7 @@ impl<'a> Check<'a> {
     }
 
     // Adds a payload to the bits of the check.
-    #[tactic(auto, using(crate::proofs::Places::bit_inside))]
+    #[tactic(auto, using(crate::proofs::Places::bit_inside, crate::proofs::Steps::tally_none))]
     pub(crate) fn add_payload(&self, payload: &[u8], checks: &mut [u8])
         requires whole { length payload.now ≡ self.now.code.now.shape.kappa }
         requires payload { FirstBits self.now.code.now.shape.kappa payload.now }

@@ -1,13 +1,10 @@
-use Rattle.std.proofs.Common.{◌≡◌, ◌+◌, ◌*◌, refl, ◌∙◌, arith}
+use Rattle.std.proofs.Common.{◌≡◌, ◌+◌, ◌*◌, ◌∙◌, arith}
 use Rattle.params.proofs.Sums.{sum_more}
 use Rattle.params.specs.Checks.{check_length}
 use Rattle.code.specs.Words.{check_offset}
 use Rattle.code.proofs.Words.{check_within}
 use Rattle.code.proofs.Steps.{checks_more}
 use Rattle.code.proofs.checks.add_checks.Goals as goal
-
-pub loop-j-init : goal.loop-j-init
-loop-j-init c = record { added = λ j l lt h. absurd (omega arith); rest = λ i h. refl }
 
 pub add_payload-requires : goal.add_payload-requires
 add_payload-requires c =

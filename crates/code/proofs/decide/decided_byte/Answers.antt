@@ -1,11 +1,8 @@
-use Rattle.std.proofs.Common.{◌≡◌, ℕ, ◌+◌, ◌-◌, ◌^◌, [], ◌∷◌, ◌++◌, cond, leb, length, get_or, sym, ap, ap₂, ◌∙◌, arith, pow-add, length-append}
+use Rattle.std.proofs.Common.{◌≡◌, ℕ, ◌+◌, ◌-◌, ◌^◌, [], ◌∷◌, ◌++◌, cond, leb, length, get_or, ap, ap₂, ◌∙◌, arith, pow-add, length-append}
 use Rattle.std.proofs.lemmas.Slice.Zip.{zip_turn}
 use Rattle.code.specs.Correcting.{number}
-use Rattle.code.proofs.Numbers.{number_none, number_more}
+use Rattle.code.proofs.Numbers.{number_more}
 use Rattle.code.proofs.decide.decided_byte.Goals as goal
-
-pub loop-bit-init : goal.loop-bit-init
-loop-bit-init c = record { small = omega arith; number = sym (number_none _) }
 
 pub loop-bit-preserved : goal.loop-bit-preserved
 loop-bit-preserved c =

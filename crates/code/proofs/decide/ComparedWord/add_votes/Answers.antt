@@ -1,13 +1,10 @@
 use Rattle.std.proofs.Common.{◌≡◌, ℕ, ◌+◌, ◌*◌, get_or, ap, ◌∙◌, arith}
 use Rattle.params.specs.Checks.{place_of}
 use Rattle.params.specs.Sums.{sum}
-use Rattle.params.proofs.Sums.{sum_none, sum_more}
+use Rattle.params.proofs.Sums.{sum_more}
 use Rattle.code.specs.Words.{check_offset}
 use Rattle.code.proofs.Places.{bit_inside}
 use Rattle.code.proofs.decide.ComparedWord.add_votes.Goals as goal
-
-pub loop-j-init : goal.loop-j-init
-loop-j-init c = record { few = λ k h. omega (arith, c.requires.clear k h); counted = λ k h. omega (arith, c.requires.clear k h, sum_none (λ i. get_or c.args.self.now.checks (check_offset c.args.self.now.code.now.shape i + place_of c.args.self.now.code.now.shape i k) 0)) }
 
 pub loop-j-preserved : goal.loop-j-preserved
 loop-j-preserved c =

@@ -1,18 +1,8 @@
 use Rattle.std.proofs.Common.{◌+◌, get_or, refl, ◌∙◌, arith, get_or-set_other}
 use Rattle.params.proofs.Places.{place_inside}
 use Rattle.code.proofs.Places.{bit_inside}
-use Rattle.code.proofs.Steps.{tally_none, tally_more, tally_all}
+use Rattle.code.proofs.Steps.{tally_more}
 use Rattle.code.proofs.walk.Check.add_payload.Goals as goal
-
-pub loop-k-init : goal.loop-k-init
-loop-k-init c =
-    let check = c.args.self.now in
-    record {
-      place = c.place-place.ensures.at;
-      before = λ p h. refl;
-      after = λ p h. refl;
-      check = λ q h. tally_none check.code.now.shape c.args.payload.now c.args.checks.now check.from check.j q (c.requires.check q h);
-    }
 
 pub loop-k-preserved : goal.loop-k-preserved
 loop-k-preserved c =
@@ -29,14 +19,4 @@ loop-k-preserved c =
       before = λ p h. get_or-set_other d at p _ 0 (omega arith) ∙ i.before p h;
       after = λ p h. get_or-set_other d at p _ 0 (omega arith) ∙ i.after p h;
       check = λ q h. tally_more code.shape c.args.payload.now c.args.checks.now d check.from check.j k q c.loop-k.place (get_or c.args.payload.now k 0) i.place (omega arith) (omega (arith, check.begins)) refl (c.requires.payload k (omega arith)) i.check h;
-    }
-
-pub returns : goal.returns
-returns c =
-    let check = c.args.self.now in
-    let i = c.loop-k.invariant in
-    record {
-      before = i.before;
-      after = i.after;
-      check = λ l h. i.check l h ∙ tally_all check.code.now.shape c.args.payload.now c.args.checks.now check.from check.j l c.loop-k.k (omega arith) check.begins;
     }

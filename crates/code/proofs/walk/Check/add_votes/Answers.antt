@@ -1,5 +1,4 @@
 use Rattle.std.proofs.Common.{◌+◌, get_or, ◌∙◌, ap₂, arith, get_or-set_other, get_or-set_same, below_more}
-use Rattle.code.proofs.Places.{bit_inside}
 use Rattle.code.proofs.walk.Check.add_votes.Goals as goal
 
 pub loop-k-preserved : goal.loop-k-preserved
