@@ -7,7 +7,7 @@ use crate::walk::Check;
 use params::code::Code;
 
 // Adds a payload to the bits of all checks.
-pub(crate) fn add_checks(code: &Code, payload: &[u8], checks: &mut [u8])
+pub(crate) fn add_payload(code: &Code, payload: &[u8], checks: &mut [u8])
     requires whole { length payload.now ≡ code.now.shape.kappa }
     requires payload { FirstBits code.now.shape.kappa payload.now }
     requires room { check_offset code.now.shape (2 * code.now.shape.f) ≤ length checks.old }

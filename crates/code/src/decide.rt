@@ -4,9 +4,9 @@ ghost use Rattle.params.specs.Limits.{most_n, most_flips, most_checks, most_kapp
 ghost use Rattle.params.specs.Sums.{bit};
 ghost use Rattle.code.specs.Words.{Bits, FirstBits, check_offset};
 ghost use Rattle.code.specs.Correcting.{number, byte_of};
-ghost use Rattle.code.specs.Compared.{Compared, votes, decided_bit};
+ghost use Rattle.code.specs.Compared.{Compared, Counted, decided_bit};
 
-use crate::checks::add_checks;
+use crate::checks::add_payload;
 use crate::walk::Check;
 use params::code::Code;
 use params::{MOST_KAPPA, MOST_N};
@@ -40,7 +40,7 @@ impl<'a> ComparedWord<'a> {
         let (payload, received_checks) = received.split_at(code.shape.kappa as usize);
         let mut checks = [0; LONGEST_WORD];
         checks[..received_checks.len()].copy_from_slice(received_checks);
-        add_checks(code, payload, &mut checks);
+        add_payload(code, payload, &mut checks);
         ComparedWord {
             code,
             payload,
@@ -53,8 +53,7 @@ impl<'a> ComparedWord<'a> {
     fn add_votes(&self, counts: &mut [u8])
         requires whole { length counts.old ≡ self.now.code.now.shape.kappa }
         requires clear { (k : ℕ) → k < self.now.code.now.shape.kappa → slice_index counts.old k ≡ 0 }
-        ensures counted { let s = self.now.code.now.shape in (k : ℕ) → k < s.kappa → slice_index counts.new k ≡ votes s self.now.checks k }
-        ensures few { (k : ℕ) → k < self.now.code.now.shape.kappa → slice_index counts.new k ≤ most_checks }
+        ensures { Counted self.now.code.now.shape self.now.checks counts.new }
     {
         for j in 0..2 * self.code.shape.f as usize {
             Check::of(self.code, j).add_votes(&self.checks, counts);
@@ -77,8 +76,7 @@ pub(crate) struct Votes<'a> {
     word: &'a ComparedWord<'a>,
     counts: [u8; LONGEST_PAYLOAD],
     ghost room: { length counts ≡ most_kappa },
-    ghost counted: { (k : ℕ) → k < word.now.code.now.shape.kappa → slice_index counts k ≡ votes word.now.code.now.shape word.now.checks k },
-    ghost few: { (k : ℕ) → k < word.now.code.now.shape.kappa → slice_index counts k ≤ most_checks },
+    ghost counted: { Counted word.now.code.now.shape word.now.checks counts },
 }
 
 impl<'a> Votes<'a> {

@@ -11,7 +11,7 @@ mod checks;
 mod decide;
 mod walk;
 
-use checks::add_checks;
+use checks::add_payload;
 use decide::ComparedWord;
 
 // Writes the bits of a message, one symbol each.
@@ -34,7 +34,7 @@ pub fn encode(code: &Code, message: &[u8], word: &mut [u8])
     let (payload, checks) = word.split_at_mut(kappa);
     write_payload(message, payload);
     checks.fill(0);
-    add_checks(code, payload, checks);
+    add_payload(code, payload, checks);
 }
 
 // Writes the message that a received word corrects to. The calls of the kit lend a word of bits that they read from symbols, and a

@@ -21,9 +21,13 @@ loop-j-preserved c =
       counted = λ k h. omega (arith, voted k h, here k, i.counted k h, sum_more j (vote k));
     }
 
-pub returns-clause-counted : goal.returns-clause-counted
-returns-clause-counted c k h =
+pub returns : goal.returns
+returns c =
     let word = c.args.self.now in
     let s = word.code.now.shape in
+    let i = c.loop-j.invariant in
     let all : c.loop-j.j ≡ 2 * s.f = omega arith in
-    c.loop-j.invariant.counted k h ∙ ap (λ n. sum n (λ i. get_or word.checks (check_offset s i + place_of s i k) 0)) all
+    record {
+      votes_of = λ k h. i.counted k h ∙ ap (λ n. sum n (λ x. get_or word.checks (check_offset s x + place_of s x k) 0)) all;
+      few = λ k h. omega (arith, i.few k h);
+    }

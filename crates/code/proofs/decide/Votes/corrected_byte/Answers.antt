@@ -13,4 +13,4 @@ returns c =
     let word = votes.word.now in
     let at = 8 * c.args.i in
     c.decided_byte.ensures ∙ number_same 8 _ _ (λ q lt.
-    ap₂ (λ n x. cond (leb (word.code.now.shape.f + 1) n) (1 - x) x) (cut votes.counts at q lt ∙ votes.counted (at + q) (omega arith)) (cut word.payload.now at q lt))
+    ap₂ (λ n x. cond (leb (word.code.now.shape.f + 1) n) (1 - x) x) (cut votes.counts at q lt ∙ votes.counted.votes_of (at + q) (omega arith)) (cut word.payload.now at q lt))

@@ -4,7 +4,7 @@ use Rattle.params.specs.Checks.{check_length}
 use Rattle.code.specs.Words.{check_offset}
 use Rattle.code.proofs.Words.{check_within}
 use Rattle.code.proofs.Steps.{checks_more}
-use Rattle.code.proofs.checks.add_checks.Goals as goal
+use Rattle.code.proofs.checks.add_payload.Goals as goal
 
 pub add_payload-requires : goal.add_payload-requires
 add_payload-requires c =

@@ -1,6 +1,6 @@
 use Rattle.std.proofs.Common.{◌≡◌, ℕ, ◌≤◌, get_or}
 use Rattle.code.specs.Words.{check_offset, PayloadAdded}
-use Rattle.code.proofs.checks.add_checks.Given as goal
+use Rattle.code.proofs.checks.add_payload.Given as goal
 
 abbrev pub invariant-loop-j : goal.invariant-loop-j
 invariant-loop-j l = record {
