@@ -33,7 +33,8 @@ pub struct SamplerFault {
     pub bytes: u64,
 }
 
-// The next value: one draw of two bytes, the low byte first. A refusal tells of the entry being made and of the bytes drawn before.
+// The next value: one draw of two bytes, the low byte first. A refusal tells of the entry being made and of the bytes
+// drawn before.
 fn next_value<S: Source>(
     source: &mut S,
     label: Label,
