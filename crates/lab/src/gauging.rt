@@ -7,15 +7,13 @@ ghost use Rattle.calls.specs.Chains.{Answers};
 ghost use Rattle.lab.specs.Lab.{gauge_checks, gauging, gauged, noise_between};
 
 use calls::{AREA_WORDS, Buffer, Input, Refusal, Wiped, expect, expect_areas, thirds};
-use params::MOST_N;
+use params::MOST;
 use params::set::Set;
 use ring::{Coefficient, Rounded, multiply_signed};
 use rounding::{Product, out_of_band};
 use sampler::SamplerFault;
 use scheme::{Secret, expand_polynomial, expand_positions};
 use source::Source;
-
-const MOST: usize = MOST_N as usize;
 
 // Everything that is tested before any work, in the order of the refusals.
 fn check_gauge(

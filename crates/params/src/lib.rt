@@ -14,6 +14,10 @@ pub mod shape;
 // The largest number of coefficients, n.
 pub const MOST_N: u16 = 1200;
 
+// The same as the length of an array: room for the coefficients, the positions or the symbols of any set.
+// Kept: such rooms are arrays, of which a set takes the first part, since the kit has no heap.
+pub const MOST: usize = MOST_N as usize;
+
 // The largest payload, in bits.
 pub const MOST_KAPPA: u16 = 256;
 

@@ -7,14 +7,12 @@ use crate::keys::make_key;
 use crate::rack::Rack;
 use crate::record::{COIN_BYTES, Coins};
 use calls::{Buffer, Input, Refusal, expect, expect_areas};
-use params::MOST_N;
+use params::MOST;
 use params::set::Set;
 use ring::Coefficient;
 use sampler::SamplerFault;
 use scheme::{expand_polynomial, expand_positions};
 use source::Source;
-
-const MOST: usize = MOST_N as usize;
 
 // Expands both seeds of coins, and forgets what they give.
 fn try_coins<S: Source>(

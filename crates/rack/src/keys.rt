@@ -6,15 +6,13 @@ ghost use Rattle.rack.specs.Calls.{coins_key};
 ghost use Rattle.rack.specs.Made.{Remade};
 
 use crate::record::Coins;
-use params::MOST_N;
+use params::MOST;
 use params::set::Set;
 use ring::{Coefficient, Rounded};
 use sampler::SamplerFault;
 use scheme::{Secret, expand_polynomial, expand_positions};
 use source::Source;
 use wire::write_key;
-
-const MOST: usize = MOST_N as usize;
 
 // The polynomials and the key of coins; the positions of the secret are left in their area.
 pub(crate) fn remake_key<S: Source>(

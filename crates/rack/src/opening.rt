@@ -8,15 +8,13 @@ use crate::keys::remake_key;
 use crate::rack::Rack;
 use crate::record::Coins;
 use calls::{Buffer, Input, Refusal, expect, expect_areas};
-use params::MOST_N;
+use params::MOST;
 use params::set::Set;
 use ring::{Coefficient, Rounded};
 use sampler::SamplerFault;
 use scheme::{Secret, encrypt, secret_from};
 use source::Source;
 use wire::Parcel;
-
-const MOST: usize = MOST_N as usize;
 
 // The longest key: n fields of 15 bits.
 const LONGEST_KEY: usize = 33 + MOST * 15 / 8;

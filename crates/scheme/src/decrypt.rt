@@ -2,9 +2,9 @@
 ghost use Rattle.std.specs.Prelude.{◌≡◌, ◌+◌, ◌/◌, length};
 ghost use Rattle.scheme.specs.Scheme.{bits_in, message_in};
 
-use crate::MOST;
 use crate::secret::Secret;
 use code::correct;
+use params::MOST;
 use ring::{Rounded, Symbol};
 use wire::Parcel;
 

@@ -13,6 +13,3 @@ pub use expand::{expand_polynomial, expand_positions};
 pub use hashes::{secret_from, station_seed};
 pub use parcels::encrypt;
 pub use secret::Secret;
-
-// Room for the coefficients of any set.
-const MOST: usize = params::MOST_N as usize;

@@ -4,10 +4,10 @@ ghost use Rattle.params.specs.Sizes.{parcel_length};
 ghost use Rattle.ring.specs.Lists.{words_q, words_p};
 ghost use Rattle.scheme.specs.Scheme.{encrypted, l_of, parcel_from};
 
-use crate::MOST;
 use crate::expand::expand_positions;
 use crate::hashes::sealing_of;
 use crate::secret::Secret;
+use params::MOST;
 use params::set::Set;
 use ring::{Coefficient, Rounded, Symbol};
 use sampler::SamplerFault;

@@ -6,9 +6,9 @@ ghost use Rattle.ring.specs.Lists.{words_q, words_p, words_t};
 ghost use Rattle.code.specs.Words.{code_word};
 ghost use Rattle.rounding.specs.Symbols.{rounded_product, cross_product, symbols, raw_bits};
 
-use crate::MOST;
 use crate::secret::Secret;
 use code::encode;
+use params::MOST;
 use ring::{Coefficient, Rounded, Symbol};
 use rounding::Product;
 

@@ -8,15 +8,13 @@ ghost use Rattle.calls.specs.Chains.{Answers};
 ghost use Rattle.seal.specs.Seal.{both, seal_checks, sealing, sealed};
 
 use calls::{Buffer, Input, Refusal, Wiped, expect, expect_areas};
-use params::MOST_N;
+use params::MOST;
 use params::set::Set;
 use ring::{Coefficient, Rounded};
 use sampler::SamplerFault;
 use scheme::{encrypt, expand_polynomial, secret_from};
 use source::Source;
 use wire::Key;
-
-const MOST: usize = MOST_N as usize;
 
 // Everything that is tested before any work, in the order of the refusals: answers the key that the bytes are.
 fn check_seal<'a>(
