@@ -13,7 +13,7 @@ use Rattle.ring.specs.Words.{add16, sub16}
 use Rattle.ring.specs.Cyclic.{mod_z}
 use Rattle.ring.specs.Congruence.{Congruent}
 use Rattle.ring.proofs.Congruences.{cong_same, cong_sym, cong_trans, cong_sub, cong_add, cong_part, mod_z_lt, mod_z_cong, mod_z_same}
-use Rattle.rounding.specs.Rounding.{h1, h2, symbol, raw_bit, noise, in_band}
+use Rattle.rounding.specs.Rounding.{h1, h2, symbol, raw_bit, slip, noise, in_band}
 use Rattle.rounding.proofs.Powers.{over, over_twice, half_pow, quarter_pow, twice_pow, mod_mod, cut_is, rest_is}
 
 -- ---- symbols
@@ -85,8 +85,14 @@ raw_is M v x lt =
     ∙ ap (λ n. bit n Y) (sym (half_pow M.pb (omega arith)))
 
 -- ---- slips
-pub less_form : (h r : ℕ) → h < 2 ^ 16 → r < 2 ^ 16 → to_z w32 (of_z w32 (to_z w32 h -ℤ to_z w32 r)) ≡ pos h -ℤ pos r
-less_form h r lh lr = omega (arith, ints)
+pub slip_is : (M : Moduli) (x h r : ℕ) → h ≡ h1 M → r ≡ (x + h) % 2 ^ 16 % 2 ^ (M.qb - M.pb) → h < 2 ^ 16 → r < 2 ^ 16
+    → to_z w32 (of_z w32 (to_z w32 h -ℤ to_z w32 r)) ≡ slip M (x % q M)
+unfolding slip
+slip_is M x h r eh er lh lr =
+    let rest = rest_is x (h1 M) (M.qb - M.pb) M.qb (omega arith) (omega arith) in
+    let step = over M.pb M.qb (omega arith) in
+    let form : to_z w32 (of_z w32 (to_z w32 h -ℤ to_z w32 r)) ≡ pos h -ℤ pos r = omega (arith, ints) in
+    cc
 
 -- ---- noise
 pub noise_form : (e f : ℤ) (m c : ℕ) → nat_abs e ≤ 2 ^ 28 → nat_abs f ≤ 2 ^ 28 → m < 2 ^ 16 → c < 2 ^ 16

@@ -1,8 +1,8 @@
 -- Powers of two, and remainders by them.
-use Rattle.std.proofs.Common.{◌≡◌, ℕ, suc, ◌+◌, ◌-◌, ◌*◌, ◌/◌, ◌%◌, ◌^◌, ◌<◌, ◌≤◌, sym, ap, ◌∙◌, arith, pow-add}
+use Rattle.std.proofs.Common.{◌≡◌, ℕ, suc, ◌+◌, ◌-◌, ◌*◌, ◌/◌, ◌%◌, ◌^◌, ◌<◌, ◌≤◌, sym, ap, ◌∙◌, arith, pow-add, pow_mono}
 use native.Mathlib.Nat.{mod-add-mod}
 use lib.Pow.{mod-mod-pow}
-use Rattle.std.proofs.lemmas.Nat.{shl-shr, shr-shr, field_of}
+use Rattle.std.proofs.lemmas.Nat.{one_shl, shl-shr, shr-shr, field_of}
 
 pub over : (a b : ℕ) → a ≤ b → 2 ^ b / 2 ^ a ≡ 2 ^ (b - a)
 over a b le =
@@ -67,3 +67,6 @@ rest_is x h d n le top =
     ∙ sym (mod-add-mod x (2 ^ d) h)
     ∙ ap (λ m. (m + h) % 2 ^ d) (sym (mod_mod x n d le))
     ∙ mod-add-mod (x % 2 ^ n) (2 ^ d) h
+
+-- what shifts of 1 are
+pub ruleset shifts = (one_shl, pow_mono, over_twice, quarter_pow)

@@ -14,12 +14,14 @@ fn low_bits(x: u16, bits: u32) -> u16
     x & ((1u32 << bits) - 1) as u16
 }
 
+#[tactic(auto, using(crate::proofs::Powers::shifts))]
 fn first_constant(moduli: Moduli) -> u16
     ensures { result ≡ h1 moduli }
 {
     1u16 << (moduli.qb - moduli.pb - 1)
 }
 
+#[tactic(auto, using(crate::proofs::Powers::shifts))]
 fn second_constant(moduli: Moduli) -> u16
     ensures { result ≡ h2 moduli }
 {
@@ -27,6 +29,7 @@ fn second_constant(moduli: Moduli) -> u16
 }
 
 // A coefficient before rounding, rounded.
+#[tactic(auto, using(crate::proofs::Powers::cut_is), unfolding(crate::specs::Rounding::rounded))]
 pub fn round(moduli: Moduli, x: Coefficient) -> Rounded
     ensures { result.0 ≡ rounded moduli (x.0 % q moduli) }
 {
@@ -35,6 +38,7 @@ pub fn round(moduli: Moduli, x: Coefficient) -> Rounded
 }
 
 // The slip of that rounding.
+#[tactic(auto, using(crate::proofs::Cuts::slip_is))]
 pub fn to_slip(moduli: Moduli, x: Coefficient) -> i32
     ensures { result ≡ slip moduli (x.0 % q moduli) }
 {
@@ -44,6 +48,7 @@ pub fn to_slip(moduli: Moduli, x: Coefficient) -> i32
 }
 
 // A code bit hidden under a coefficient after rounding.
+#[tactic(auto, using(crate::proofs::Cuts::symbol_is))]
 pub fn to_symbol(moduli: Moduli, x: Rounded, bit: u8) -> Symbol
     ensures { result.0 ≡ symbol moduli (x.0 % p moduli) bit }
 {
@@ -52,6 +57,7 @@ pub fn to_symbol(moduli: Moduli, x: Rounded, bit: u8) -> Symbol
 }
 
 // The bit that is read from a symbol.
+#[tactic(auto, using(crate::proofs::Cuts::raw_is))]
 pub fn to_raw_bit(moduli: Moduli, v: Symbol, x: Rounded) -> u8
     ensures { result ≡ raw_bit moduli v.0 (x.0 % p moduli) }
 {
@@ -79,6 +85,7 @@ pub fn to_noise(moduli: Moduli, first: i32, second: i32, x: Rounded) -> i32
 }
 
 // Whether noise is in band.
+#[tactic(auto, using(crate::proofs::Cuts::band_is))]
 pub fn is_in_band(moduli: Moduli, w: i32) -> bool
     ensures { result ≡ in_band moduli w }
 {

@@ -85,6 +85,7 @@ impl Product<'_, Rounded> {
 }
 
 // How many symbols are out of band.
+#[tactic(auto, unfolding(crate::specs::Symbols::out_of_band))]
 pub fn out_of_band(moduli: Moduli, noise: &[i32]) -> usize
     ensures { result ≡ out_of_band moduli noise.now }
 {
