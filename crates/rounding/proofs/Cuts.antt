@@ -14,7 +14,7 @@ use Rattle.ring.specs.Cyclic.{mod_z}
 use Rattle.ring.specs.Congruence.{Congruent}
 use Rattle.ring.proofs.Congruences.{cong_same, cong_sym, cong_trans, cong_sub, cong_add, cong_part, mod_z_lt, mod_z_cong, mod_z_same}
 use Rattle.rounding.specs.Rounding.{h1, h2, symbol, raw_bit, slip, noise, in_band}
-use Rattle.rounding.proofs.Powers.{over, over_twice, half_pow, quarter_pow, twice_pow, mod_mod, cut_is, rest_is}
+use Rattle.rounding.proofs.Powers.{split, over, over_twice, half_pow, quarter_pow, twice_pow, mod_mod, cut_is, rest_is}
 
 -- ---- symbols
 -- two words added, cut to k bits
@@ -49,19 +49,19 @@ top_bit y half some lt =
           ap (λ n. n / half) e ∙ div-mul-add 1 half (y - half) (omega arith) ∙ sym (ap bit (le-leb half y more))
     ]
 
+-- what is congruent modulo 2^w is so modulo a lower power
+cong_low : (w b : ℕ) {x y : ℤ} → b ≤ w → Congruent (2 ^ w) x y → Congruent (2 ^ b) x y
+cong_low w b {x} {y} le c = cong_part (2 ^ (w - b)) (2 ^ b) (subst (λ m. Congruent m x y) (split b w le) c)
+
 -- a number and its remainder modulo 2^w are congruent modulo a lower power
 low_cong : (w b x : ℕ) → b ≤ w → Congruent (2 ^ b) (pos (x % 2 ^ w)) (pos x)
-low_cong w b x le =
-    let e : w - b + b ≡ w = omega arith in
-    let w-is : 2 ^ (w - b) * 2 ^ b ≡ 2 ^ w = sym (pow-add 2 (w - b) b) ∙ ap (λ n. 2 ^ n) e in
-    cong_part (2 ^ (w - b)) (2 ^ b) (subst (λ m. Congruent m (pos (x % 2 ^ w)) (pos x)) (sym w-is) (mod_z_cong (2 ^ w) (pow_pos w) (pos x)))
+low_cong w b x le = cong_low w b le (mod_z_cong (2 ^ w) (pow_pos w) (pos x))
 
 -- x subtracted from a, where words wrap
 less_cong : (w b a x : ℕ) → b ≤ w → x < 2 ^ w → Congruent (2 ^ b) (pos ((a + (2 ^ w - x)) % 2 ^ w)) (pos a -ℤ pos x)
 less_cong w b a x le lt =
-    let e : w - b + b ≡ w = omega arith in
-    let w-is : 2 ^ (w - b) * 2 ^ b ≡ 2 ^ w = sym (pow-add 2 (w - b) b) ∙ ap (λ n. 2 ^ n) e in
-    cong_trans (low_cong w b (a + (2 ^ w - x)) le) (record { j = 0; k = 2 ^ (w - b); level = omega (arith, ints) })
+    let wraps : Congruent (2 ^ w) (pos (a + (2 ^ w - x))) (pos a -ℤ pos x) = record { j = 0; k = 1; level = omega (arith, ints) } in
+    cong_trans (low_cong w b (a + (2 ^ w - x)) le) (cong_low w b le wraps)
 
 raw_word : (b v x c : ℕ) → b ≤ 16 → x < 2 ^ 16
     → add16 (sub16 (v % 2 ^ 16) x) c % 2 ^ b ≡ mod_z (2 ^ b) (pos v -ℤ pos (x % 2 ^ b) +ℤ pos c)
@@ -110,9 +110,9 @@ middle_lt M =
     omega arith
 
 -- the low bits of x + h, scaled by q/p
-module _ (M : Moduli) (x rest : ℕ) (is : rest ≡ (x + h1 M) % 2 ^ 16 % 2 ^ (M.pb - M.tb)) where
+module _ (M : Moduli) (x h rest : ℕ) (eh : h ≡ h1 M) (is : rest ≡ (x + h) % 2 ^ 16 % 2 ^ (M.pb - M.tb)) where
   rest_small : rest < 2 ^ (M.pb - M.tb)
-  rest_small = subst (λ n. n < 2 ^ (M.pb - M.tb)) (sym is) (mod-lt ((x + h1 M) % 2 ^ 16) (pow_pos (M.pb - M.tb)))
+  rest_small = subst (λ n. n < 2 ^ (M.pb - M.tb)) (sym is) (mod-lt ((x + h) % 2 ^ 16) (pow_pos (M.pb - M.tb)))
 
   cut_whole : rest * 2 ^ (M.qb - M.pb) % 2 ^ 32 ≡ rest * 2 ^ (M.qb - M.pb)
   cut_whole = shl_whole rest (M.pb - M.tb) (M.qb - M.pb) 32 rest_small (omega arith)
@@ -149,11 +149,8 @@ bits_cong (negsuc n) f = record { j = 0; k = 1; level = omega (arith, ints) }
 
 sum_cong : (b : ℕ) → b ≤ 32 → (w : ℤ) → SFits w32 w → (c : ℕ) → (of_z w32 w + c) % 2 ^ 32 % 2 ^ b ≡ mod_z (2 ^ b) (w +ℤ pos c)
 sum_cong b le w f c =
-    let e : 32 - b + b ≡ 32 = omega arith in
-    let w-is : 2 ^ (32 - b) * 2 ^ b ≡ 2 ^ 32 = sym (pow-add 2 (32 - b) b) ∙ ap (λ n. 2 ^ n) e in
     mod_z_same (2 ^ b) (pow_pos b) {x = pos ((of_z w32 w + c) % 2 ^ 32)}
-    (cong_trans (low_cong 32 b (of_z w32 w + c) le)
-    (cong_add (cong_part (2 ^ (32 - b)) (2 ^ b) (subst (λ m. Congruent m (pos (of_z w32 w)) w) (sym w-is) (bits_cong w f))) (cong_same {x = pos c} refl)))
+    (cong_trans (low_cong 32 b (of_z w32 w + c) le) (cong_add (cong_low 32 b le (bits_cong w f)) (cong_same {x = pos c} refl)))
 
 mask_form : (n : ℕ) → 0 < n → n ≤ 2 ^ 16 → of_z w32 (to_z w32 n -ℤ pos 1) ≡ n - 1
 mask_form n some le = omega (arith, ints)

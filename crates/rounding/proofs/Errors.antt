@@ -8,7 +8,7 @@ use Rattle.ring.specs.Congruence.{Congruent}
 use Rattle.ring.proofs.Congruences.{cong_move}
 use Rattle.rounding.specs.Rounding.{h1, rounded, slip}
 use Rattle.rounding.specs.RoundingLaws.{Rounds}
-use Rattle.rounding.proofs.Powers.{over, over_twice, twice_pow}
+use Rattle.rounding.proofs.Powers.{split, over, over_twice, twice_pow}
 
 -- y / d modulo m, times d, is y without its remainder by d
 parts : (d m y : ℕ) → d * (y / d % m) + y / d / m * (d * m) + y % d ≡ y
@@ -24,8 +24,7 @@ error : (M : Moduli) (x : ℕ) → Congruent (q M) (pos (q M / p M * rounded M x
 unfolding rounded slip
 error M x =
     let d : ℕ = q M / p M in
-    let e : M.qb - M.pb + M.pb ≡ M.qb = omega arith in
-    let q_is : q M ≡ d * p M = sym (ap (λ n. n * p M) (over M.pb M.qb (omega arith)) ∙ sym (pow-add 2 (M.qb - M.pb) M.pb) ∙ ap (λ n. 2 ^ n) e) in
+    let q_is : q M ≡ d * p M = split M.pb M.qb (omega arith) ∙ ap (λ n. n * p M) (sym (over M.pb M.qb (omega arith))) in
     let r-is : (x + h1 M) * p M / q M ≡ (x + h1 M) / d = ap (λ n. (x + h1 M) * p M / n) q_is ∙ mul-div-mul_right (x + h1 M) d (pow_pos M.pb) in
     cong_move q_is (ap (λ n. pos (d * (n % p M))) r-is) (regroup x (h1 M) ((x + h1 M) % d)) (cut d (p M) (x + h1 M))
 

@@ -23,28 +23,20 @@ pub length_rounded_product : (M : Moduli) (n : ℕ) (a s : List ℕ) → length 
 unfolding rounded_product
 length_rounded_product M n a s = length_listed n _
 
--- at any place: past the end the residue is 0, which is rounded to 0
-pub get_d_rounded_product : (M : Moduli) (n : ℕ) (a s : List ℕ) (i : ℕ) → get_or (rounded_product M n a s) i 0 ≡ rounded M (residue M n a s i)
-unfolding rounded_product
-get_d_rounded_product M n a s i = elim (cases_lt i n) [
-  | inl lt ↦ get_d_listed n _ i 0 lt
-  | inr le ↦ get_or_past (listed n (λ j. rounded M (residue M n a s j))) i 0 (omega (arith, length_rounded_product M n a s)) ∙ sym (ap (rounded M) (residue_past M n a s i le) ∙ rounded_zero M)
+-- what is made of each residue, at any place: past the end the residue is 0
+get_d_residues : {Y : Type 0} (M : Moduli) (f : ℕ → Y) (d : Y) → f 0 ≡ d → (n : ℕ) (a s : List ℕ) (i : ℕ) → get_or (listed n (λ j. f (residue M n a s j))) i d ≡ f (residue M n a s i)
+get_d_residues M f d none n a s i = elim (cases_lt i n) [
+  | inl lt ↦ get_d_listed n _ i d lt
+  | inr le ↦ get_or_past (listed n (λ j. f (residue M n a s j))) i d (omega (arith, length_listed n (λ j. f (residue M n a s j)))) ∙ sym (ap f (residue_past M n a s i le) ∙ none)
 ]
 
-pub length_slips : (M : Moduli) (n : ℕ) (a s : List ℕ) → length (slips M n a s) ≡ n
-unfolding slips
-length_slips M n a s = length_listed n _
+pub get_d_rounded_product : (M : Moduli) (n : ℕ) (a s : List ℕ) (i : ℕ) → get_or (rounded_product M n a s) i 0 ≡ rounded M (residue M n a s i)
+unfolding rounded_product
+get_d_rounded_product M = get_d_residues M (rounded M) 0 (rounded_zero M)
 
 pub get_d_slips : (M : Moduli) (n : ℕ) (a s : List ℕ) (i : ℕ) → get_or (slips M n a s) i (pos 0) ≡ slip M (residue M n a s i)
 unfolding slips
-get_d_slips M n a s i = elim (cases_lt i n) [
-  | inl lt ↦ get_d_listed n _ i (pos 0) lt
-  | inr le ↦ get_or_past (listed n (λ j. slip M (residue M n a s j))) i (pos 0) (omega (arith, length_slips M n a s)) ∙ sym (ap (slip M) (residue_past M n a s i le) ∙ slip_zero M)
-]
-
-pub length_cross_product : (M : Moduli) (n : ℕ) (b r : List ℕ) → length (cross_product M n b r) ≡ n + 1
-unfolding cross_product
-length_cross_product M n b r = length_listed (n + 1) _
+get_d_slips M = get_d_residues M (slip M) (pos 0) (slip_zero M)
 
 pub get_d_cross_product : (M : Moduli) (n : ℕ) (b r : List ℕ) (i d : ℕ) → i ≤ n → get_or (cross_product M n b r) i d ≡ mod_z (p M) (cyclic (n + 1) (whole b) r i)
 unfolding cross_product

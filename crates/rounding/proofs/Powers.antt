@@ -4,10 +4,14 @@ use native.Mathlib.Nat.{mod-add-mod}
 use lib.Pow.{mod-mod-pow}
 use Rattle.std.proofs.lemmas.Nat.{one_shl, shl-shr, shr-shr, field_of}
 
-pub over : (a b : ℕ) → a ≤ b → 2 ^ b / 2 ^ a ≡ 2 ^ (b - a)
-over a b le =
+-- 2^b is 2^(b - a) times 2^a
+pub split : (a b : ℕ) → a ≤ b → 2 ^ b ≡ 2 ^ (b - a) * 2 ^ a
+split a b le =
     let e : b ≡ b - a + a = omega arith in
-    ap (λ n. n / 2 ^ a) (ap (λ n. 2 ^ n) e ∙ pow-add 2 (b - a) a) ∙ shl-shr (2 ^ (b - a)) a
+    ap (λ n. 2 ^ n) e ∙ pow-add 2 (b - a) a
+
+pub over : (a b : ℕ) → a ≤ b → 2 ^ b / 2 ^ a ≡ 2 ^ (b - a)
+over a b le = ap (λ n. n / 2 ^ a) (split a b le) ∙ shl-shr (2 ^ (b - a)) a
 
 pub over_twice : (a b : ℕ) → a < b → 2 ^ b / (2 * 2 ^ a) ≡ 2 ^ (b - a - 1)
 over_twice a b lt =

@@ -70,6 +70,7 @@ pub fn to_raw_bit(moduli: Moduli, v: Symbol, x: Rounded) -> u8
 }
 
 // The noise at a place, from the two products of slips. The loop over a whole list hands it entries of at most 2^28 in size.
+#[tactic(auto, using(crate::proofs::Cuts::noise_is))]
 pub fn to_noise(moduli: Moduli, first: i32, second: i32, x: Rounded) -> i32
     requires first_near { unsigned_abs first ≤ 2 ^ 28 }
     requires second_near { unsigned_abs second ≤ 2 ^ 28 }
