@@ -1,12 +1,10 @@
 -- How large the elements of the lists are, at any place.
-use Rattle.std.proofs.Common.{ℕ, ◌+◌, ◌^◌, ◌<◌, ◌≤◌, List, length, get_or, pos, nat_abs, arith, pow_pos}
+use Rattle.std.proofs.Common.{ℕ, ◌<◌, ◌≤◌, List, length, get_or, arith, pow_pos}
 use Rattle.params.specs.Sizes.{p, t}
 use Rattle.params.specs.declared.moduli.Moduli.{Moduli}
-use Rattle.ring.specs.Lists.{signed}
-use Rattle.ring.proofs.Congruences.{mod_z_lt}
 use Rattle.ring.proofs.Listing.{listed_holds}
-use Rattle.rounding.specs.Symbols.{rounded_product, slips, cross_product, symbols, raw_bits}
-use Rattle.rounding.proofs.Sizes.{rounded_lt, symbol_lt, raw_bit_le, slip_near}
+use Rattle.rounding.specs.Symbols.{rounded_product, symbols, raw_bits}
+use Rattle.rounding.proofs.Sizes.{rounded_lt, symbol_lt, raw_bit_le}
 
 pub rounded_product_lt : (M : Moduli) (n : ℕ) (a s : List ℕ) (i : ℕ) → get_or (rounded_product M n a s) i 0 < p M
 unfolding rounded_product

@@ -1,5 +1,5 @@
 -- Shifts, masks and words that wrap are the quotients and remainders of the definitions.
-use Rattle.std.proofs.Common.{◌≡◌, ℕ, ◌+◌, ◌-◌, ◌*◌, ◌/◌, ◌%◌, ◌^◌, ◌<◌, ◌≤◌, Bool, cond, ltb, leb, ℤ, pos, negsuc, ◌+ℤ◌, ◌-ℤ◌, nat_abs, sym, refl, ap, ◌∙◌, subst, ap₂, inl, inr, mod-lt, mul_comm, arith, pow_pos, pow_mono, pow-add, w32, SFits, to_z, of_z}
+use Rattle.std.proofs.Common.{◌≡◌, ℕ, ◌+◌, ◌-◌, ◌*◌, ◌/◌, ◌%◌, ◌^◌, ◌<◌, ◌≤◌, Bool, cond, ltb, leb, ℤ, pos, negsuc, ◌+ℤ◌, ◌-ℤ◌, nat_abs, sym, refl, ap, ◌∙◌, subst, ap₂, inl, inr, mod-lt, mul_comm, arith, pow_pos, pow_mono, w32, SFits, to_z, of_z}
 use native.Mathlib.Nat.{mod-add-mod, add-mod-mod, div-eq_of_lt}
 use lib.Bits.{bit_and}
 use lib.Signed.{lt_z}
