@@ -3,6 +3,7 @@ use Rattle.std.proofs.Common.{◌≡◌, ℕ, zero, suc, ◌+◌, ◌<◌, ◌�
 use Rattle.std.proofs.lemmas.List.{take_all}
 use Rattle.std.proofs.lemmas.List.Sums.{sum_by_more}
 use Rattle.params.specs.Sums.{sum, bit}
+use Rattle.params.proofs.Sums.{sum_at_most}
 use Rattle.params.specs.declared.moduli.Moduli.{Moduli}
 use Rattle.ring.specs.Lists.{signed}
 use Rattle.rounding.specs.Rounding.{in_band}
@@ -10,9 +11,7 @@ use Rattle.rounding.specs.Symbols.{out_of_band}
 
 -- where every term is 0, the sum is
 pub sum_zero : (n : ℕ) (F : ℕ → ℕ) → ((i : ℕ) → i < n → F i ≡ 0) → sum n F ≡ 0
-unfolding sum
-sum_zero zero F each = refl
-sum_zero (suc n) F each = omega (arith, sum_zero n F (λ i lt. each i (omega arith)), each n (omega arith))
+sum_zero n F each = omega (arith, sum_at_most n 0 F (λ i lt. omega (arith, each i lt)))
 
 -- how many of the first k elements pass a test
 count_front : {X : Type 0} (test : X → Bool) (xs : List X) (d : X) (k : ℕ) → k ≤ length xs → count_by test (take k xs) ≡ sum k (λ i. bit (test (get_or xs i d)))

@@ -1,8 +1,9 @@
 -- One bit: what is read from its symbol, by the noise.
-use Rattle.std.proofs.Common.{◌≡◌, ℕ, zero, suc, ◌+◌, ◌-◌, ◌*◌, ◌/◌, ◌%◌, ◌<◌, cond, ltb, leb, ℤ, pos, ◌+ℤ◌, ◌-ℤ◌, ◌*ℤ◌, sym, refl, ap, ◌∙◌, inl, inr, mul-le-mul_left, arith}
-use native.Mathlib.Nat.{add-mul-div_right, add-mul-mod_self_right, mod-add-div', mul-div-mul_right, mul-lt-mul_of_pos_left}
+use Rattle.std.proofs.Common.{◌≡◌, ℕ, zero, suc, ◌+◌, ◌-◌, ◌*◌, ◌/◌, ◌%◌, ◌<◌, ◌≤◌, cond, ltb, leb, ℤ, pos, ◌+ℤ◌, ◌-ℤ◌, ◌*ℤ◌, sym, refl, ap, ◌∙◌, inl, inr, mul-le-mul_left, arith}
+use native.Mathlib.Nat.{add-mul-div_right, add-mul-mod_self_right, mul-div-mul_right, mul-lt-mul_of_pos_left}
 use borrow.Author.Differences.{up, down, ints}
-use Rattle.std.proofs.lemmas.Bool.{lt-ltb, le-ltb, le-leb, lt-leb, cond-true, cond-false, cases_lt}
+use Rattle.std.proofs.lemmas.Grind.{common_steps}
+use Rattle.std.proofs.lemmas.Bool.{cases_lt}
 use Rattle.params.specs.Sizes.{q, p}
 use Rattle.params.specs.Sums.{bit}
 use Rattle.params.specs.declared.moduli.Moduli.{Moduli}
@@ -10,15 +11,8 @@ use Rattle.ring.specs.Cyclic.{mod_z}
 use Rattle.ring.specs.Congruence.{Congruent}
 use Rattle.ring.proofs.Congruences.{cong_same, cong_sym, cong_trans, cong_add, cong_sub, cong_move, cong_scale, cong_below, mod_z_lt, mod_z_cong}
 use Rattle.rounding.specs.Rounding.{symbol, raw_bit, noise, in_band}
+use Rattle.rounding.proofs.Errors.{cut}
 use Rattle.noise.proofs.Scale.{Scaled, scaled, some_t, some_p, some_q, q_all, q_over_p, p_over_t, q_over_2t, half_t, half_p, half_q, quarter_q}
-
--- a number by its quotient modulo p, and its remainder
-cut_parts : (d p y : ℕ) → d * (y / d % p) + y / d / p * (d * p) + y % d ≡ y
-cut_parts d p y = omega (arith, mod-add-div' y d, ap (λ n. d * n) (mod-add-div' (y / d) p))
-
--- d times the quotient by d, modulo d·p: the number less its remainder
-cut : (d p y : ℕ) → Congruent (d * p) (pos (d * (y / d % p))) (pos y -ℤ pos (y % d))
-cut d p y = record { j = y / d / p; k = 0; level = omega (arith, ints, cut_parts d p y) }
 
 -- what is read, where the two constants are e + c together
 spread_parts : (x y h1 h2 e c k rest : ℕ) → h2 + h1 ≡ e + c → up (pos (x + h1 + k) -ℤ pos rest -ℤ pos y +ℤ pos h2) + rest + y ≡ down (pos (x + h1 + k) -ℤ pos rest -ℤ pos y +ℤ pos h2) + x + e + c + k
@@ -35,25 +29,22 @@ ordered h1 e c b rest drift = omega (arith, ints)
 -- a comparison, both sides times d
 leb_times : (d k y : ℕ) → 0 < d → leb k y ≡ leb (d * k) (d * y)
 leb_times d k y some = elim (cases_lt y k) [
-  | inl lt ↦ lt-leb k y lt ∙ sym (lt-leb (d * k) (d * y) (mul-lt-mul_of_pos_left lt some))
-  | inr le ↦ le-leb k y le ∙ sym (le-leb (d * k) (d * y) (mul-le-mul_left d le))
+  | inl lt ↦ let less : d * y < d * k = mul-lt-mul_of_pos_left lt some in grind (arith, common_steps)
+  | inr le ↦ let most : d * k ≤ d * y = mul-le-mul_left d le in grind (arith, common_steps)
 ]
 
 -- a bit b that was added as a half: the upper half tells it where w lies in the lower half, else the other bit
 by_halves : (half y w b : ℕ) → y < 2 * half → w < 2 * half → b < 2 → Congruent (2 * half) (pos y) (pos (w + half * b)) → bit (leb half y) ≡ cond (ltb w half) b (1 - b)
 by_halves half y w zero hy hw hb g =
     let same : y ≡ w = cong_below hy hw (record { j = g.j; k = g.k; level = omega (arith, ints) }) in
-    elim (cases_lt w half) [
-      | inl lt ↦ ap bit (lt-leb half y (omega arith)) ∙ sym (cond-true (ltb w half) 0 1 (lt-ltb w half lt))
-      | inr le ↦ ap bit (le-leb half y (omega arith)) ∙ sym (cond-false (ltb w half) 0 1 (le-ltb w half le))
-    ]
+    grind (arith, common_steps)
 by_halves half y w (suc zero) hy hw hb g = elim (cases_lt w half) [
   | inl lt ↦
       let same : y ≡ w + half = cong_below hy (omega arith) (record { j = g.j; k = g.k; level = omega (arith, ints) }) in
-      ap bit (le-leb half y (omega arith)) ∙ sym (cond-true (ltb w half) 1 0 (lt-ltb w half lt))
+      grind (arith, common_steps)
   | inr le ↦
       let same : y ≡ w - half = cong_below hy (omega arith) (record { j = g.j; k = suc g.k; level = omega (arith, ints) }) in
-      ap bit (lt-leb half y (omega arith)) ∙ sym (cond-false (ltb w half) 1 0 (le-ltb w half le))
+      grind (arith, common_steps)
 ]
 by_halves half y w (suc (suc b)) hy hw hb g = absurd (omega arith)
 

@@ -16,6 +16,7 @@ pub fn noise_laws(moduli: Moduli)
 {}
 
 // One exchange worked through.
+#[tactic(auto, using(crate::proofs::Worked::worked))]
 pub fn worked_exchange()
     ensures { Worked }
 {}

@@ -1,12 +1,12 @@
 -- Shifts, masks and words that wrap are the quotients and remainders of the definitions.
-use Rattle.std.proofs.Common.{◌≡◌, ℕ, ◌+◌, ◌-◌, ◌*◌, ◌/◌, ◌%◌, ◌^◌, ◌<◌, ◌≤◌, Bool, cond, ltb, leb, ℤ, pos, negsuc, ◌+ℤ◌, ◌-ℤ◌, nat_abs, sym, refl, ap, ◌∙◌, subst, ap₂, inl, inr, mod-lt, mul_comm, arith, pow_pos, pow_mono, w32, SFits, to_z, of_z}
+use Rattle.std.proofs.Common.{◌≡◌, ℕ, ◌+◌, ◌-◌, ◌*◌, ◌/◌, ◌%◌, ◌^◌, ◌<◌, ◌≤◌, cond, ltb, leb, ℤ, pos, negsuc, ◌+ℤ◌, ◌-ℤ◌, nat_abs, sym, refl, ap, ◌∙◌, subst, ap₂, mod-lt, mul_comm, arith, pow_pos, pow_mono, w32, SFits, to_z, of_z}
 use native.Mathlib.Nat.{mod-add-mod, add-mod-mod, div-eq_of_lt}
 use lib.Bits.{bit_and}
 use lib.Signed.{lt_z}
 use borrow.Author.Differences.{ints}
 use Rattle.std.proofs.lemmas.Int.{to_z_pos}
 use Rattle.std.proofs.lemmas.Nat.{one_shl, and_mask, div-mul-add, shl_whole, shl_below}
-use Rattle.std.proofs.lemmas.Bool.{cases_lt, le-leb, lt-leb}
+use Rattle.std.proofs.lemmas.Grind.{common_steps}
 use Rattle.params.specs.Sizes.{q, p, t}
 use Rattle.params.specs.declared.moduli.Moduli.{Moduli}
 use Rattle.ring.specs.Words.{add16, sub16}
@@ -40,14 +40,7 @@ symbol_is M x bit =
 -- ---- raw bits
 -- the highest bit
 top_bit : (y half : ℕ) → 0 < half → y < 2 * half → y / half ≡ cond (leb half y) 1 0
-top_bit y half some lt =
-    let bit : Bool → ℕ = λ b. cond b 1 0 in
-    elim (cases_lt y half) [
-      | inl less ↦ div-eq_of_lt less ∙ sym (ap bit (lt-leb half y less))
-      | inr more ↦
-          let e : y ≡ 1 * half + (y - half) = omega arith in
-          ap (λ n. n / half) e ∙ div-mul-add 1 half (y - half) (omega arith) ∙ sym (ap bit (le-leb half y more))
-    ]
+top_bit y half some lt = grind (arith, common_steps, div-eq_of_lt, div-mul-add)
 
 -- what is congruent modulo 2^w is so modulo a lower power
 cong_low : (w b : ℕ) {x y : ℤ} → b ≤ w → Congruent (2 ^ w) x y → Congruent (2 ^ b) x y
@@ -95,15 +88,7 @@ slip_is M x h r eh er lh lr =
     cc
 
 -- ---- noise
-pub noise_form : (e f : ℤ) (m c : ℕ) → nat_abs e ≤ 2 ^ 28 → nat_abs f ≤ 2 ^ 28 → m < 2 ^ 16 → c < 2 ^ 16
-    → to_z w32 (of_z w32 (to_z w32 (of_z w32 (to_z w32 (of_z w32 (to_z w32 (of_z w32 e) -ℤ to_z w32 (of_z w32 f))) +ℤ to_z w32 m)) -ℤ to_z w32 c)) ≡ (e -ℤ f) +ℤ pos m -ℤ pos c
-noise_form e f m c le lf lm lc = omega (arith, ints)
-
-pub noise_fits : (e f : ℤ) (m c : ℕ) → nat_abs e ≤ 2 ^ 28 → nat_abs f ≤ 2 ^ 28 → m < 2 ^ 16 → c < 2 ^ 16
-    → SFits w32 (to_z w32 (of_z w32 (to_z w32 (of_z w32 (to_z w32 (of_z w32 e) -ℤ to_z w32 (of_z w32 f))) +ℤ to_z w32 m)) -ℤ to_z w32 c)
-noise_fits e f m c le lf lm lc = omega (arith, ints)
-
-pub middle_lt : (M : Moduli) → (1 * 2 ^ (M.qb - M.tb - 1)) % 2 ^ 32 < 2 ^ 16
+middle_lt : (M : Moduli) → (1 * 2 ^ (M.qb - M.tb - 1)) % 2 ^ 32 < 2 ^ 16
 middle_lt M =
     let e : (1 * 2 ^ (M.qb - M.tb - 1)) % 2 ^ 32 ≡ 2 ^ (M.qb - M.tb - 1) = one_shl (M.qb - M.tb - 1) 32 (omega arith) in
     let le : 2 ^ (M.qb - M.tb - 1) ≤ 2 ^ 14 = pow_mono {i = M.qb - M.tb - 1} {j = 14} (omega arith) in
@@ -132,14 +117,18 @@ module _ (M : Moduli) (x h rest : ℕ) (eh : h ≡ h1 M) (is : rest ≡ (x + h) 
 
   module _ (e f : ℤ) (le : nat_abs e ≤ 2 ^ 28) (lf : nat_abs f ≤ 2 ^ 28) where
     pub noise_sum_fits : SFits w32 (to_z w32 (of_z w32 (to_z w32 (of_z w32 (to_z w32 (of_z w32 e) -ℤ to_z w32 (of_z w32 f))) +ℤ to_z w32 ((1 * 2 ^ (M.qb - M.tb - 1)) % 2 ^ 32))) -ℤ to_z w32 (rest * 2 ^ (M.qb - M.pb) % 2 ^ 32))
-    noise_sum_fits = noise_fits e f _ _ le lf (middle_lt M) cut_lt
+    noise_sum_fits = let m = middle_lt M in let k = cut_lt in omega (arith, ints)
 
     pub noise_is : to_z w32 (of_z w32 (to_z w32 (of_z w32 (to_z w32 (of_z w32 (to_z w32 (of_z w32 e) -ℤ to_z w32 (of_z w32 f))) +ℤ to_z w32 ((1 * 2 ^ (M.qb - M.tb - 1)) % 2 ^ 32))) -ℤ to_z w32 (rest * 2 ^ (M.qb - M.pb) % 2 ^ 32)))
         ≡ noise M (e -ℤ f) (x % p M)
     unfolding noise
     noise_is =
         let middle : (1 * 2 ^ (M.qb - M.tb - 1)) % 2 ^ 32 ≡ q M / (2 * t M) = one_shl (M.qb - M.tb - 1) 32 (omega arith) ∙ sym (over_twice M.tb M.qb (omega arith)) in
-        noise_form e f _ _ le lf (middle_lt M) cut_lt ∙ ap₂ (λ n m. (e -ℤ f) +ℤ pos n -ℤ pos m) middle cut_value
+        let m = middle_lt M in
+        let k = cut_lt in
+        let form : to_z w32 (of_z w32 (to_z w32 (of_z w32 (to_z w32 (of_z w32 (to_z w32 (of_z w32 e) -ℤ to_z w32 (of_z w32 f))) +ℤ to_z w32 ((1 * 2 ^ (M.qb - M.tb - 1)) % 2 ^ 32))) -ℤ to_z w32 (rest * 2 ^ (M.qb - M.pb) % 2 ^ 32)))
+        ≡ (e -ℤ f) +ℤ pos ((1 * 2 ^ (M.qb - M.tb - 1)) % 2 ^ 32) -ℤ pos (rest * 2 ^ (M.qb - M.pb) % 2 ^ 32) = omega (arith, ints) in
+        form ∙ ap₂ (λ n m. (e -ℤ f) +ℤ pos n -ℤ pos m) middle cut_value
 
 -- ---- the band
 -- the bits of a signed number are congruent to it

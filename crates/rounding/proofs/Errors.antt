@@ -14,7 +14,8 @@ use Rattle.rounding.proofs.Powers.{split, over, over_twice, twice_pow}
 parts : (d m y : ℕ) → d * (y / d % m) + y / d / m * (d * m) + y % d ≡ y
 parts d m y = omega (arith, mod-add-div' y d, ap (λ n. d * n) (mod-add-div' (y / d) m))
 
-cut : (d m y : ℕ) → Congruent (d * m) (pos (d * (y / d % m))) (pos y -ℤ pos (y % d))
+-- d times the quotient by d, modulo d·m: the number less its remainder
+pub cut : (d m y : ℕ) → Congruent (d * m) (pos (d * (y / d % m))) (pos y -ℤ pos (y % d))
 cut d m y = record { j = y / d / m; k = 0; level = omega (arith, ints, parts d m y) }
 
 regroup : (x h r : ℕ) → pos x +ℤ (pos h -ℤ pos r) ≡ pos (x + h) -ℤ pos r

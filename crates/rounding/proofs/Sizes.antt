@@ -1,12 +1,13 @@
 -- How large the answers are.
-use Rattle.std.proofs.Common.{◌≡◌, ℕ, ◌+◌, ◌-◌, ◌*◌, ◌/◌, ◌%◌, ◌^◌, ◌<◌, ◌≤◌, Bool, true, false, cond, pos, ◌-ℤ◌, nat_abs, sym, ap, ◌∙◌, mod-lt, mod-eq_of_lt, zero-add, arith, pow_pos, pow_mono, pow-add}
+use Rattle.std.proofs.Common.{◌≡◌, ℕ, ◌+◌, ◌-◌, ◌*◌, ◌/◌, ◌%◌, ◌^◌, ◌<◌, ◌≤◌, pos, ◌-ℤ◌, nat_abs, ap, ◌∙◌, mod-lt, mod-eq_of_lt, zero-add, arith, pow_pos, pow_mono}
 use native.Mathlib.Nat.{div-eq_of_lt}
+use Rattle.std.proofs.lemmas.Grind.{common_steps}
 use borrow.Author.Differences.{ints}
 use Rattle.params.specs.Sizes.{q, p, t}
 use Rattle.params.specs.declared.moduli.Moduli.{Moduli}
 use Rattle.rounding.specs.Rounding.{h1, rounded, symbol, raw_bit, slip}
 use Rattle.rounding.proofs.Errors.{rounds}
-use Rattle.rounding.proofs.Powers.{over, over_twice, twice_pow}
+use Rattle.rounding.proofs.Powers.{split, over, over_twice, twice_pow}
 
 pub rounded_lt : (M : Moduli) (x : ℕ) → rounded M x < p M
 unfolding rounded
@@ -16,13 +17,9 @@ pub symbol_lt : (M : Moduli) (x bit : ℕ) → symbol M x bit < t M
 unfolding symbol
 symbol_lt M x bit = mod-lt _ (pow_pos M.tb)
 
-one : (b : Bool) → cond b 1 0 ≤ 1
-one true = omega arith
-one false = omega arith
-
 pub raw_bit_le : (M : Moduli) (v x : ℕ) → raw_bit M v x ≤ 1
 unfolding raw_bit
-raw_bit_le M v x = one _
+raw_bit_le M v x = grind (arith, common_steps)
 
 pub slip_near : (M : Moduli) (x : ℕ) → nat_abs (slip M x) ≤ 2 ^ 14
 slip_near M x =
@@ -34,10 +31,9 @@ slip_near M x =
 pub rounded_zero : (M : Moduli) → rounded M 0 ≡ 0
 unfolding rounded
 rounded_zero M =
-    let h-is : (0 + h1 M) * p M ≡ 2 ^ (M.qb - M.pb - 1) * 2 ^ M.pb = ap (λ n. n * p M) (zero-add (h1 M) ∙ over_twice M.pb M.qb (omega arith)) in
-    let e : M.qb - M.pb - 1 + M.pb ≡ M.qb - 1 = omega arith in
-    let top : 2 ^ (M.qb - M.pb - 1) * 2 ^ M.pb ≡ 2 ^ (M.qb - 1) = sym (pow-add 2 (M.qb - M.pb - 1) M.pb) ∙ ap (λ n. 2 ^ n) e in
-    let lt : (0 + h1 M) * p M < q M = omega (arith, twice_pow M.qb (omega arith), pow_pos (M.qb - 1)) in
+    let h-is : h1 M ≡ 2 ^ (M.qb - M.pb - 1) = over_twice M.pb M.qb (omega arith) in
+    let top : 2 * h1 M * p M ≡ q M = omega (arith, split M.pb M.qb (omega arith), ap (λ n. n * p M) (twice_pow (M.qb - M.pb) (omega arith)), ap (λ n. n * p M) h-is) in
+    let lt : (0 + h1 M) * p M < q M = omega (arith, pow_pos M.qb) in
     ap (λ n. n % p M) (div-eq_of_lt lt) ∙ mod-eq_of_lt (pow_pos M.pb)
 
 pub slip_zero : (M : Moduli) → slip M 0 ≡ pos 0
