@@ -90,6 +90,7 @@ pub fn out_of_band(moduli: Moduli, noise: &[i32]) -> usize
     ensures { result ≡ out_of_band moduli noise.now }
 {
     let mut count: usize = 0;
+    // Kept: a loop that counts over the elements of the slice is the form that the project asks for here.
     for w in noise {
         if !is_in_band(moduli, *w) {
             count += 1;
