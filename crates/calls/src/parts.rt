@@ -1,9 +1,8 @@
 // Inputs of 96 bytes that hold three values of 32.
-ghost use Rattle.std.specs.Prelude.{◌≡◌, [], ◌∷◌, length, take, drop};
+ghost use Rattle.std.specs.Prelude.{◌≡◌, [], ◌∷◌, take, drop};
 
-/// The three parts of 32 bytes that stand in 96. Every call has tested or made that length.
-pub fn thirds(bytes: &[u8]) -> [[u8; 32]; 3]
-    requires { length bytes.now ≡ 96 }
+/// The three parts of 32 bytes that stand in 96.
+pub fn thirds(bytes: &[u8; 96]) -> [[u8; 32]; 3]
     ensures { result ≡ take 32 bytes.now ∷ take 32 (drop 32 bytes.now) ∷ take 32 (drop 64 bytes.now) ∷ [] }
 {
     let (parts, _) = bytes.as_chunks::<32>();

@@ -15,15 +15,17 @@ use sampler::SamplerFault;
 use scheme::{Secret, expand_polynomial, expand_positions};
 use source::Source;
 
-// Everything that is tested before any work, in the order of the refusals.
-fn check_gauge(
+// Everything that is tested before any work, in the order of the refusals: answers the three seeds that the bytes are.
+fn check_gauge<'a>(
     set: &Set,
     noise: usize,
     secret_words: usize,
     product_words: usize,
-    seeds: &[u8],
-) -> Result<(), Refusal>
-    ensures { result ≡ gauge_checks set.now noise secret_words product_words seeds.now }
+    seeds: &'a [u8],
+) -> Result<&'a [u8; 96], Refusal>
+    ensures { MatchResult result
+        (λ s. (s.now ≡ seeds.now) × (gauge_checks set.now noise secret_words product_words seeds.now ≡ Ok tt))
+        (λ e. gauge_checks set.now noise secret_words product_words seeds.now ≡ Err e) }
 {
     expect(
         noise,
@@ -31,11 +33,9 @@ fn check_gauge(
         Refusal::WrongBuffer(Buffer::Output),
     )?;
     expect_areas(secret_words, product_words)?;
-    expect(
-        seeds.len(),
-        96,
-        Refusal::WrongInput(Input::First, seeds.len()),
-    )
+    seeds
+        .as_array()
+        .ok_or(Refusal::WrongInput(Input::First, seeds.len()))
 }
 
 // The noise between two secrets.
@@ -80,12 +80,11 @@ fn fill_noise(
 fn gauge_in<S: Source>(
     set: &Set,
     source: &mut S,
-    seeds: &[u8],
+    seeds: &[u8; 96],
     noise: &mut [i32],
     secret: &mut [u16],
     product: &mut [u16],
 ) -> Result<(), SamplerFault>
-    requires seeds { length seeds.now ≡ 96 }
     requires noise { length noise.old ≡ set.now.code.mu }
     requires secret { length secret.old ≡ set.now.h }
     requires product { length product.old ≡ set.now.n + 1 }
@@ -134,7 +133,7 @@ pub fn gauge<S: Source>(
 {
     let secret_area = Wiped { area: secret_area };
     let product_area = Wiped { area: product_area };
-    check_gauge(
+    let seeds = check_gauge(
         set,
         noise.len(),
         secret_area.area.len(),
