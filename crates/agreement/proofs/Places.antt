@@ -22,17 +22,17 @@ by_answer P ps (Err e) same other = same
 
 empty_place : (i : ℕ) (p : Option Coins) → unused i p ≡ Ok tt → p ≡ None
 empty_place i None e = refl
-empty_place i (Some c) e = let z : ◌≡◌ {A = ℕ} 0 1 = cc in absurd (omega arith)
+empty_place i (Some c) e = cc
 
 held_place : (i : ℕ) (p : Option Coins) (c : Coins) → held i p ≡ Ok c → p ≡ Some c
-held_place i None c e = let z : ◌≡◌ {A = ℕ} 0 1 = cc in absurd (omega arith)
+held_place i None c e = cc
 held_place i (Some d) c e = ap Some (ok_same e)
 
 held_same : {c d : Coins} → Some c ≡ Some d → c ≡ d
 held_same e = cc
 
 not_both : (p : Option Coins) (c : Coins) → p ≡ Some c → p ≡ None → ⊥
-not_both p c x y = let z : ◌≡◌ {A = ℕ} 0 1 = cc in omega arith
+not_both p c x y = cc
 
 -- coins as issue leaves them: their parts have 32 bytes, and both seeds expand
 pub record Lawful (B : Book) (s : Set) (c : Coins) : Type 0 where

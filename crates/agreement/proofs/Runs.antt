@@ -1,5 +1,5 @@
 -- After any run a publish has bytes enough.
-use Rattle.std.proofs.Common.{◌≡◌, ℕ, Bool, true, false, cond, leb, List, Ok, Err, refl, arith, Option, Some, None}
+use Rattle.std.proofs.Common.{◌≡◌, ℕ, Bool, true, false, cond, leb, List, Ok, Err, refl, Option, Some, None}
 use Rattle.params.specs.Sizes.{key_length}
 use Rattle.params.specs.declared.set.Set.{Set}
 use Rattle.calls.specs.Areas.{area_words}
@@ -22,12 +22,12 @@ expands_key B s c e =
     (key_from s c.sigma a x, bind_is (public_polynomial B s c.sigma) _ ea (bind_is (secret_positions B s c.seed) _ ex refl))
 
 place_test : (i : ℕ) (t : Bool) → Enough {X = Unit {0}} (cond t (Err (NoSuchPlace i)) (Ok (tt {0})))
-place_test i true e p = let z : ◌≡◌ {A = ℕ} 0 1 = cc in omega arith
-place_test i false e p = let z : ◌≡◌ {A = ℕ} 0 1 = cc in omega arith
+place_test i true e p = cc
+place_test i false e p = cc
 
 held_enough : (i : ℕ) (p : Option Coins) → Enough (held i p)
-held_enough i None e q = let z : ◌≡◌ {A = ℕ} 0 1 = cc in omega arith
-held_enough i (Some c) e q = let z : ◌≡◌ {A = ℕ} 0 1 = cc in omega arith
+held_enough i None e q = cc
+held_enough i (Some c) e q = cc
 
 areas_enough : (secret_words product_words : ℕ) → Enough (areas_fit secret_words product_words)
 areas_enough secret_words product_words =

@@ -8,13 +8,6 @@ ghost use Rattle.agreement.specs.Agreement.{NoiseTells, NoiseBounded, Opens, Nev
 use rack::Rack;
 use source::Source;
 
-// Whether the rack's set is below the line.
-fn is_below_line<K: Source>(rack: &Rack<K>) -> bool
-    ensures { Decides result (BelowLine rack.now.set) }
-{
-    rack.set().below_line()
-}
-
 /// Whether every parcel that is sealed to a published key of this rack's set, and that nobody touched, opens at its place until that is
 /// retired. Its contract is the agreement, for any two sources with equal books, one at the station and one at the till.
 pub fn always_opens<T: Source, K: Source>(station: &T, rack: &Rack<K>) -> bool
@@ -25,5 +18,5 @@ pub fn always_opens<T: Source, K: Source>(station: &T, rack: &Rack<K>) -> bool
     ensures never_out { NeverOut (K.book rack.now.source) rack.now.set }
     ensures publishes { Publishes (K.book rack.now.source) rack.now.set }
 {
-    is_below_line(rack)
+    rack.set().below_line()
 }

@@ -1,3 +1,4 @@
+use Rattle.std.proofs.Common.{rules}
 use Rattle.agreement.proofs.Laboratory.{noise_tells, noise_bounded, never_out}
 use Rattle.agreement.proofs.Runs.{publishes}
 use Rattle.agreement.proofs.Opens.{opens}
@@ -9,7 +10,7 @@ returns g c =
     let B = g.K.Source.book c.args.rack.now.source in
     let s = c.args.rack.now.set in
     record {
-      verdict = c.is_below_line.ensures;
+      verdict = search rules;
       noise_tells = noise_tells C B s;
       noise_bounded = noise_bounded B s;
       opens = opens C B s;
