@@ -32,6 +32,7 @@ pub struct Facts {
 }
 
 /// A place of a rack: in use with these coins, or empty, and then the bytes count for nothing.
+// Kept: C has no Option, so a flag stands beside the coins.
 #[repr(C)]
 #[derive(Clone, Copy)]
 pub struct Place {

@@ -1,4 +1,5 @@
 // What was refused, told as a number and four words.
+// Kept: C has no enums with values, so a refusal goes out as numbers.
 ghost use Rattle.std.specs.Prelude.{◌≡◌};
 ghost use Rattle.calls.specs.Areas.{zeros};
 ghost use Rattle.params.specs.Rules.{refusal_numbers};
