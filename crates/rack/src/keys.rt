@@ -14,6 +14,8 @@ use scheme::{Secret, expand_polynomial, expand_positions};
 use source::Source;
 use wire::write_key;
 
+// Kept: key, areas and polynomials are slices cut to the set's lengths, since below the tool there is no heap and the caller lends them.
+
 // The polynomials and the key of coins; the positions of the secret are left in their area.
 pub(crate) fn remake_key<S: Source>(
     set: &Set,

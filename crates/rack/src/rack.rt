@@ -56,6 +56,8 @@ impl<S: Source> Rack<S> {
         &self.set
     }
 
+    // Kept: the two working areas are two lent slices, as the C interface and every call of the kit lend them.
+
     /// Keeps coins at an empty place, if both their seeds expand. Each call changes at most the place that it names; on a refusal all
     /// places are as before.
     pub fn issue(
