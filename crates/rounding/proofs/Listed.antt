@@ -10,7 +10,7 @@ use Rattle.ring.specs.Cyclic.{cyclic, mod_z, cyclic_words}
 use Rattle.ring.proofs.Congruences.{mod_z_sub, mod_z_cut}
 use Rattle.ring.proofs.Listing.{length_listed, get_d_listed, listed_by}
 use Rattle.ring.proofs.CyclicLaws.{reduced_is}
-use Rattle.ring.proofs.Bridge.{get_d_cyclic_words}
+use Rattle.ring.proofs.Bridge.{length_cyclic_words, get_d_cyclic_words}
 use Rattle.rounding.specs.Rounding.{rounded, symbol, raw_bit, slip, noise}
 use Rattle.rounding.proofs.Sizes.{rounded_zero, slip_zero}
 use Rattle.rounding.specs.Symbols.{residue, rounded_product, slips, cross_product, symbols, raw_bits, noises}
@@ -87,12 +87,21 @@ module _ (M : Moduli) (n : ℕ) (a s ws : List ℕ) (e : ws ≡ cyclic_words n a
       ∙ mod_z_cut 16 M.pb (omega arith) (cyclic (n + 1) (whole a) s i)
       ∙ sym (get_d_cross_product M n a s i 0 le)
 
+  long : length ws ≡ n + 1
+  long = ap length e ∙ length_cyclic_words n a s
+
   -- a list with f of each coefficient of the reduced product
-  pub reduced_list : {Y : Type 0} (f : ℕ → Y) (ys : List Y) (d : Y) → length ys ≡ n
-      → ((k : ℕ) → k < n → get_or ys k d ≡ f (sub16 (get_or ws k 0) (get_or ws n 0) % q M)) → ys ≡ listed n (λ i. f (residue M n a s i))
-  reduced_list f ys d long each = listed_by n _ ys d long (λ k lt. each k lt ∙ ap f (residue_is k (omega arith)))
+  pub reduced_list : {Y : Type 0} (f : ℕ → Y) (ys : List Y) (d : Y) (m : ℕ) → length ys ≡ m → length ws ≡ m + 1
+      → ((k : ℕ) → k < m → get_or ys k d ≡ f (sub16 (get_or ws k 0) (get_or ws m 0) % q M)) → ys ≡ listed n (λ i. f (residue M n a s i))
+  reduced_list f ys d m same room each =
+      let whole_length = long in
+      let m-is : m ≡ n = omega arith in
+      listed_by n _ ys d (omega arith) (λ k lt.
+      each k (omega arith) ∙ ap (λ l. f (sub16 (get_or ws k 0) (get_or ws l 0) % q M)) m-is ∙ ap f (residue_is k (omega arith)))
 
   -- a list with f of each place and the coefficient of the cyclic product there
-  pub crossed_list : {Y : Type 0} (f : ℕ → ℕ → Y) (ys : List Y) (d : Y) (m : ℕ) → length ys ≡ m → m ≤ n + 1
+  pub crossed_list : {Y : Type 0} (f : ℕ → ℕ → Y) (ys : List Y) (d : Y) (m : ℕ) → length ys ≡ m → m ≤ length ws
       → ((k : ℕ) → k < m → get_or ys k d ≡ f k (get_or ws k 0 % p M)) → ys ≡ listed m (λ i. f i (get_or (cross_product M n a s) i 0))
-  crossed_list f ys d m long room each = listed_by m _ ys d long (λ k lt. each k lt ∙ ap (f k) (cross_is k (omega arith)))
+  crossed_list f ys d m same room each =
+      let whole_length = long in
+      listed_by m _ ys d same (λ k lt. each k lt ∙ ap (f k) (cross_is k (omega arith)))

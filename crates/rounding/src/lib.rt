@@ -7,5 +7,5 @@ mod lists;
 mod product;
 
 pub use laws::rounding_laws;
-pub use lists::out_of_band;
+pub use lists::{noise, out_of_band, raw_bits, round_product, slips, symbols};
 pub use product::Product;

@@ -6,12 +6,12 @@ use Rattle.ring.specs.Lists.{words_t}
 use Rattle.rounding.specs.Rounding.{raw_bit}
 use Rattle.rounding.specs.Symbols.{raw_bits}
 use Rattle.rounding.proofs.Listed.{crossed_list}
-use Rattle.rounding.proofs.lists.Product+Rounded.raw_bits.Goals as goal
+use Rattle.rounding.proofs.lists.raw_bits.Goals as goal
 
 pub returns : goal.returns
 unfolding raw_bits
-returns c =
-    crossed_list c.args.moduli _ _ _ _ c.args.self.now.holds (λ k x. raw_bit c.args.moduli (get_or (words_t c.args.sent.now) k 0) x) c.fill_each.new.out 0 (length (words_t c.args.sent.now)) (simp length-map (omega arith)) (simp length-map (omega arith))
+returns c n b r e =
+    crossed_list c.args.moduli n b r c.args.product.now e (λ k x. raw_bit c.args.moduli (get_or (words_t c.args.sent.now) k 0) x) c.fill_each.new.out 0 (length (words_t c.args.sent.now)) (simp length-map (omega arith)) (simp length-map (omega arith))
     (λ k lt. let inside = simp length-map at lt in
     let h = c.fill_each.ensures k 0 (omega arith) in
     let sent = get_or-map (λ (x : Symbol). x.0) c.args.sent.now k (record { 0 = 0 }) in
