@@ -2,6 +2,7 @@
 use crate::commands::Areas;
 use crate::stop::Stop;
 use crate::texts::{JOURNEY, QUESTION};
+use calls::thirds;
 use code::encode;
 use kit::{KitSource, always_opens, new_rack, new_source};
 use lab::{correct_raw, gauge, raw_read};
@@ -42,9 +43,7 @@ fn fill(bytes: &mut [u8], first: u8) {
 
 // The seed of the till's secret, from the coins.
 fn till_seed(coins: &[u8; 96]) -> [u8; 32] {
-    let mut seed = [0u8; 32];
-    seed.copy_from_slice(&coins[32..64]);
-    seed
+    thirds(coins)[1]
 }
 
 // The seeds of a gauge: σ and the seed of the till's secret from the coins, and the seed of the station's from the sealing.

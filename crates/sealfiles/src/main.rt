@@ -103,19 +103,11 @@ fn obey<'a>(rt: &HostRuntime, words: &[&'a str]) -> Result<(), Stop<'a>> {
 
 // The words of the command line after the program's own.
 fn read_words(rt: &HostRuntime) -> io::Result<Vec<String>> {
-    let mut words = Vec::new(rt.alloc());
-    for word in env::args(rt)?.skip(1) {
-        words.push(word)?;
-    }
-    Ok(words)
+    Ok(env::args(rt)?.skip(1).collect(rt.alloc())?)
 }
 
 fn run<'a>(rt: &HostRuntime, words: &'a [String]) -> Result<(), Stop<'a>> {
-    let texts: Vec<&'a str> = words
-        .iter()
-        .map(|word| word.as_str())
-        .collect(rt.alloc())
-        .map_err(io::Error::from)?;
+    let texts: Vec<&'a str> = words.iter().map(|word| word.as_str()).collect(rt.alloc())?;
     obey(rt, texts.as_slice())
 }
 

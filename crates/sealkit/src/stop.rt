@@ -1,6 +1,7 @@
 // What ends a run with status 1, and the line that tells it.
 use params::proposal::SetFault;
 use setfile::fault::Fault;
+use std::alloc::AllocError;
 use std::{fmt, io};
 use words::Told;
 
@@ -21,6 +22,12 @@ pub enum Stop<'a> {
 impl From<io::Error> for Stop<'_> {
     fn from(e: io::Error) -> Self {
         Stop::Io(e)
+    }
+}
+
+impl From<AllocError> for Stop<'_> {
+    fn from(e: AllocError) -> Self {
+        Stop::Io(io::Error::from(e))
     }
 }
 
