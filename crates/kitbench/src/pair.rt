@@ -28,12 +28,12 @@ fn seed(run: u32, usage: Use) -> [u8; 32] {
 }
 
 // σ and the seed of s, then z or the seed of r.
-fn seeds(run: u32, third: Use) -> [u8; 96] {
-    let mut bytes = [0u8; 96];
-    bytes[..32].copy_from_slice(&seed(run, Use::Polynomial));
-    bytes[32..64].copy_from_slice(&seed(run, Use::Till));
-    bytes[64..].copy_from_slice(&seed(run, third));
-    bytes
+fn seeds(run: u32, third: Use) -> [[u8; 32]; 3] {
+    [
+        seed(run, Use::Polynomial),
+        seed(run, Use::Till),
+        seed(run, third),
+    ]
 }
 
 fn fill_message(message: &mut [u8], run: u32) {
@@ -152,7 +152,7 @@ impl Pair {
         self.outside = accepted(gauge(
             &self.set,
             &mut self.station,
-            &seeds(run, Use::Station),
+            seeds(run, Use::Station).as_flattened(),
             self.noise.as_mut_slice(),
             &mut self.secret_area,
             &mut self.product_area,
@@ -166,7 +166,7 @@ impl Pair {
         accepted(
             self.rack.issue(
                 0,
-                &seeds(run, Use::Rejection),
+                seeds(run, Use::Rejection).as_flattened(),
                 &mut self.secret_area,
                 &mut self.product_area,
             ),
