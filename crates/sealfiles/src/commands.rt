@@ -32,7 +32,8 @@ pub fn make_rack<'a>(rt: &HostRuntime, set: &'a str, rack: &'a str) -> Result<()
 
 pub fn retire<'a, S: Source + Drop>(rt: &HostRuntime, site: Site<'a, S>) -> Result<(), Stop<'a>> {
     let mut till = site.load(rt)?;
-    till.rack.retire(till.place)?;
+    let place = till.place;
+    till.rack.retire(place)?;
     till.store(rt)
 }
 
@@ -43,10 +44,11 @@ pub fn issue<'a, S: Source + Drop>(
 ) -> Result<(), Stop<'a>> {
     check_name(site.path, &[coins])?;
     let mut till = site.load(rt)?;
+    let place = till.place;
     let coins = read_bytes(rt, coins)?;
     let mut areas = Areas::new();
     till.rack.issue(
-        till.place,
+        place,
         coins.as_slice(),
         &mut areas.secret,
         &mut areas.product,
@@ -61,10 +63,11 @@ pub fn publish<'a, S: Source + Drop>(
 ) -> Result<(), Stop<'a>> {
     check_name(key, &[site.path])?;
     let mut till = site.load(rt)?;
+    let place = till.place;
     let mut bytes = vec![in rt.alloc(); 0u8; till.rack.set().key_len()]?;
     let mut areas = Areas::new();
     till.rack.publish(
-        till.place,
+        place,
         bytes.as_mut_slice(),
         &mut areas.secret,
         &mut areas.product,
@@ -80,11 +83,12 @@ pub fn open<'a, S: Source + Drop>(
 ) -> Result<(), Stop<'a>> {
     check_name(secret, &[site.path, parcel])?;
     let mut till = site.load(rt)?;
+    let place = till.place;
     let parcel = read_bytes(rt, parcel)?;
     let mut bytes = [0u8; 32];
     let mut areas = Areas::new();
     till.rack.open(
-        till.place,
+        place,
         parcel.as_slice(),
         &mut bytes,
         &mut areas.secret,

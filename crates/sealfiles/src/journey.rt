@@ -323,7 +323,7 @@ fn answer(rt: &HostRuntime, set: &Set, outside: usize) -> Result<(), Stop<'stati
 }
 
 // The journey with the last of the built-in sets.
-pub fn run_journey(rt: &HostRuntime) -> Result<(), Stop<'static>> {
+pub fn run_journey<'a>(rt: &HostRuntime) -> Result<(), Stop<'a>> {
     println!(rt; "{JOURNEY}")?;
     let Some(listed) = LISTED.last() else {
         return Err(Stop::Usage);

@@ -75,17 +75,16 @@ fn expand<'a, S: Source + Drop>(
     }
 }
 
-// Does what the words of the command line ask.
-fn obey<'a>(rt: &HostRuntime, words: &[&'a str]) -> Result<(), Stop<'a>> {
-    match words {
-        [] => run_journey(rt),
-        ["help"] => Ok(println!(rt; "{HELP}")?),
-        ["sets"] => show_sets(rt),
-        ["set", path] => show_set(rt, path),
-        ["card", serial, path] => show_card(rt, serial, path),
-        ["new-rack", set, rack] => make_rack(rt, set, rack),
-        ["show", rack] => show_rack(rt, rack),
-        ["retire", path, place] => retire(
+// Does what a command and its words ask.
+fn obey<'a>(rt: &HostRuntime, command: &str, words: &[&'a str]) -> Result<(), Stop<'a>> {
+    match (command, words) {
+        ("help", []) => Ok(println!(rt; "{HELP}")?),
+        ("sets", []) => show_sets(rt),
+        ("set", [path]) => show_set(rt, path),
+        ("card", [serial, path]) => show_card(rt, serial, path),
+        ("new-rack", [set, rack]) => make_rack(rt, set, rack),
+        ("show", [rack]) => show_rack(rt, rack),
+        ("retire", [path, place]) => retire(
             rt,
             Site {
                 path,
@@ -93,11 +92,11 @@ fn obey<'a>(rt: &HostRuntime, words: &[&'a str]) -> Result<(), Stop<'a>> {
                 source: new_source(),
             },
         ),
-        [command, "--tape", path, rest @ ..] => {
+        (_, [option, path, rest @ ..]) if *option == "--tape" => {
             let bytes = read_bytes(rt, path)?;
             expand(rt, command, rest, Tape::new(bytes.as_slice()))
         }
-        [command, rest @ ..] => expand(rt, command, rest, new_source()),
+        _ => expand(rt, command, words, new_source()),
     }
 }
 
@@ -108,7 +107,10 @@ fn read_words(rt: &HostRuntime) -> io::Result<Vec<String>> {
 
 fn run<'a>(rt: &HostRuntime, words: &'a [String]) -> Result<(), Stop<'a>> {
     let texts: Vec<&'a str> = words.iter().map(|word| word.as_str()).collect(rt.alloc())?;
-    obey(rt, texts.as_slice())
+    match texts.as_slice() {
+        [] => run_journey(rt),
+        [command, rest @ ..] => obey(rt, command, rest),
+    }
 }
 
 // Tells what ended a run.

@@ -7,7 +7,7 @@ use report::{
 };
 
 // The built-in sets, and what certainty costs.
-pub fn show_sets(rt: &HostRuntime) -> Result<(), Stop<'static>> {
+pub fn show_sets<'a>(rt: &HostRuntime) -> Result<(), Stop<'a>> {
     print_table::<Stop>(rt, Part::Numbers)?;
     println!(rt; "")?;
     print_table::<Stop>(rt, Part::Line)?;

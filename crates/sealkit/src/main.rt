@@ -43,7 +43,7 @@ Where a set is not below the line, these numbers rule nothing out and say nothin
 ";
 
 // The built-in sets.
-fn show_sets(rt: &HostRuntime) -> Result<(), Stop<'static>> {
+fn show_sets<'a>(rt: &HostRuntime) -> Result<(), Stop<'a>> {
     print_table::<Stop>(rt, Part::Numbers)?;
     println!(rt; "")?;
     print_table::<Stop>(rt, Part::Line)?;
@@ -52,7 +52,7 @@ fn show_sets(rt: &HostRuntime) -> Result<(), Stop<'static>> {
 }
 
 // The whole task: the built-in sets, what an unlawful set gets, and what being below the line costs.
-fn show_all(rt: &HostRuntime) -> Result<(), Stop<'static>> {
+fn show_all<'a>(rt: &HostRuntime) -> Result<(), Stop<'a>> {
     println!(rt; "{OPENING}")?;
     show_sets(rt)?;
     println!(rt; "")?;
@@ -77,13 +77,12 @@ fn show_file<'a>(rt: &HostRuntime, path: &'a str) -> Result<(), Stop<'a>> {
     Ok(())
 }
 
-// Does what the words of the command line ask.
-fn obey<'a>(rt: &HostRuntime, words: &[&'a str]) -> Result<(), Stop<'a>> {
-    match words {
-        [] => show_all(rt),
-        ["help"] => Ok(println!(rt; "{HELP}")?),
-        ["sets"] => show_sets(rt),
-        ["set", path] => show_file(rt, path),
+// Does what a command and its words ask.
+fn obey<'a>(rt: &HostRuntime, command: &str, words: &[&'a str]) -> Result<(), Stop<'a>> {
+    match (command, words) {
+        ("help", []) => Ok(println!(rt; "{HELP}")?),
+        ("sets", []) => show_sets(rt),
+        ("set", [path]) => show_file(rt, path),
         _ => Err(Stop::Usage),
     }
 }
@@ -95,7 +94,10 @@ fn read_words(rt: &HostRuntime) -> io::Result<Vec<String>> {
 
 fn run<'a>(rt: &HostRuntime, words: &'a [String]) -> Result<(), Stop<'a>> {
     let texts: Vec<&'a str> = words.iter().map(|word| word.as_str()).collect(rt.alloc())?;
-    obey(rt, texts.as_slice())
+    match texts.as_slice() {
+        [] => show_all(rt),
+        [command, rest @ ..] => obey(rt, command, rest),
+    }
 }
 
 // Tells what ended a run.
