@@ -1,7 +1,7 @@
 // The places of a rack as C holds them.
 ghost use Rattle.std.specs.Prelude.{◌≡◌, ◌<◌, length};
 ghost use Rattle.calls.specs.Chains.{Answers};
-ghost use Rattle.rack.specs.Calls.{place_count, coins_from, retired};
+ghost use Rattle.rack.specs.Calls.{place_count, retired};
 ghost use Rattle.keyseal.specs.Places.{record_of, records, in_use, coins_alone, with_coins, emptied};
 ghost use Rattle.keyseal.specs.Told.{if_done};
 
@@ -24,24 +24,11 @@ impl Place {
     }
 }
 
-// The coins that stand in 96 bytes.
-fn coins_of(bytes: &[u8; 96]) -> Coins
-    ensures { result ≡ coins_from bytes.now }
-{
-    let mut sigma = [0u8; 32];
-    let mut seed = [0u8; 32];
-    let mut z = [0u8; 32];
-    sigma.copy_from_slice(&bytes[0..32]);
-    seed.copy_from_slice(&bytes[32..64]);
-    z.copy_from_slice(&bytes[64..96]);
-    Coins { sigma, seed, z }
-}
-
 // What a place holds.
 fn record_of(place: &Place) -> Record
     ensures { result ≡ record_of place.now }
 {
-    place.held.then(|| coins_of(&place.coins))
+    place.held.then(|| Coins::from(&place.coins))
 }
 
 // What the places hold.
