@@ -139,7 +139,7 @@ there x w = read_as (encoded x) x (length_encoded x w) (letters_back x w) (image
 
 passed : (t : Bool) (r : Result Image RackFault) (e : RackFault) (x : Image) → cond t r (Err e) ≡ Ok x → (t ≡ true) × (r ≡ Ok x)
 passed true r e x h = (refl, h)
-passed false r e x h = let z : ◌≡◌ {A = ℕ} 0 1 = cc in absurd (omega arith)
+passed false r e x h = cc
 
 -- what is read was written so
 back : (bs : List ℕ) (x : Image) → decoded bs ≡ Ok x → encoded x ≡ bs
@@ -153,4 +153,4 @@ back bs x h =
 -- and what is refused was not
 pub exact : (bs : List ℕ) (r : Result Image RackFault) → r ≡ decoded bs → MatchResult r (λ x. encoded x ≡ bs) (λ _. NeverWritten bs)
 exact bs (Ok x) h = back bs x (sym h)
-exact bs (Err e) h = λ x w written. let q : Err e ≡ Ok x = h ∙ ap decoded (sym written) ∙ there x w in let z : ◌≡◌ {A = ℕ} 0 1 = cc in absurd (omega arith)
+exact bs (Err e) h = λ x w written. let q : Err e ≡ Ok x = h ∙ ap decoded (sym written) ∙ there x w in cc

@@ -24,6 +24,7 @@ returns c =
       rounds_254 = r.highest;
       secret = refl;
       runs_short = runs_short;
+      short_numbers = refl;
       cyclic_product = product-worked.all;
       reduced_product = product-worked.less;
       b = x.till_public;
