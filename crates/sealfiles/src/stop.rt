@@ -3,89 +3,47 @@ use calls::Refusal as Denial;
 use params::proposal::SetFault;
 use rackfile::RackFault;
 use setfile::fault::Fault;
-use std::alloc::{AllocError, AllocFailed};
-use std::{fmt, io};
+use std::alloc::AllocError;
+use std::io;
+use thiserror::Error;
 use words::Told;
 
-#[derive(Drop)]
+#[derive(Debug, Drop, Error)]
 pub enum Stop<'a> {
     // A set that is not lawful.
-    Refused(SetFault),
+    #[error("{}", Told { why: *.0 })]
+    Refused(#[from] SetFault),
     // A call that said no.
-    Denied(Denial),
+    #[error("{}", Told { why: *.0 })]
+    Denied(#[from] Denial),
     // A file that states no set.
+    #[error("{0}: {1}")]
     BadSet(&'a str, Fault),
     // A file that holds no rack.
+    #[error("{0}: {1}")]
     BadRack(&'a str, RackFault),
     // A file that cannot be read or written.
+    #[error("{0}: {1}")]
     NoFile(&'a str, io::Error),
     // An output for which no file beside it can be made.
+    #[error("{0}.tmp: {1}")]
     NoneBeside(&'a str, io::Error),
     // Something that is no plain file stands where an output is to be written.
+    #[error("{0}: not a plain file, so nothing is written there")]
     NotPlain(&'a str),
     // A name that is given for an output and for something else.
+    #[error("{0}: an output needs a name that stands nowhere else in the command")]
     SameName(&'a str),
     // A word that is no number of a place.
+    #[error("{0}: not the number of a place")]
     NoPlace(&'a str),
     // Words that are no command.
+    #[error("sealkit: no such command; try sealkit help")]
     Usage,
     // An argument that cannot be read, or a text that cannot be written.
-    Io(io::Error),
+    #[error("sealkit: {0}")]
+    Io(#[from] io::Error),
     // No memory.
-    Memory,
-}
-
-impl From<io::Error> for Stop<'_> {
-    fn from(e: io::Error) -> Self {
-        Stop::Io(e)
-    }
-}
-
-impl From<AllocError> for Stop<'_> {
-    fn from(_e: AllocError) -> Self {
-        Stop::Memory
-    }
-}
-
-impl<T: Drop> From<AllocFailed<T>> for Stop<'_> {
-    fn from(_e: AllocFailed<T>) -> Self {
-        Stop::Memory
-    }
-}
-
-impl From<SetFault> for Stop<'_> {
-    fn from(fault: SetFault) -> Self {
-        Stop::Refused(fault)
-    }
-}
-
-impl From<Denial> for Stop<'_> {
-    fn from(refusal: Denial) -> Self {
-        Stop::Denied(refusal)
-    }
-}
-
-impl fmt::Display for Stop<'_> {
-    fn fmt<W: fmt::Write>(&self, f: &mut fmt::Formatter<W>) -> fmt::Result {
-        match self {
-            Stop::Refused(fault) => write!(f, "{}", Told { why: *fault }),
-            Stop::Denied(refusal) => write!(f, "{}", Told { why: *refusal }),
-            Stop::BadSet(path, fault) => write!(f, "{path}: {fault}"),
-            Stop::BadRack(path, fault) => write!(f, "{path}: {fault}"),
-            Stop::NoFile(path, e) => write!(f, "{path}: {e}"),
-            Stop::NoneBeside(path, e) => write!(f, "{path}.tmp: {e}"),
-            Stop::NotPlain(path) => write!(
-                f,
-                "{path}: not a plain file, so nothing is written there"
-            ),
-            Stop::SameName(path) => write!(
-                f,
-                "{path}: an output needs a name that stands nowhere else in the command"
-            ),
-            Stop::NoPlace(word) => write!(f, "{word}: not the number of a place"),
-            Stop::Usage => write!(f, "sealkit: no such command; try sealkit help"),
-            Stop::Io(e) => write!(f, "sealkit: {e}"),
-            Stop::Memory => write!(f, "sealkit: no memory"),
-        }
-    }
+    #[error("sealkit: no memory")]
+    Memory(#[from(alloc)] AllocError),
 }

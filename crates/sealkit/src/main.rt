@@ -3,14 +3,15 @@
 
 mod stop;
 
-use crate::stop::Stop;
+use crate::stop::{BadFile, Stop};
 use params::set::Set;
 use report::{COSTS, NEIGHBOURS, Part, RING, print_refusals, print_report, print_table};
+use setfile::draft::Draft;
 use setfile::file::read_set;
 use setfile::proposed::proposal;
 use std::process::ExitCode;
 use std::rt::{Env, Files};
-use std::{env, fs, io};
+use std::{env, fs};
 
 const HELP: &str = "\
 sealkit              the built-in sets, two that are unlawful, and what being below the line costs
@@ -43,7 +44,7 @@ Where a set is not below the line, these numbers rule nothing out and say nothin
 ";
 
 // The built-in sets.
-fn show_sets<'a>(rt: &HostRuntime) -> Result<(), Stop<'a>> {
+fn show_sets(rt: &HostRuntime) -> Result<(), Stop> {
     print_table::<Stop>(rt, Part::Numbers)?;
     println!(rt; "")?;
     print_table::<Stop>(rt, Part::Line)?;
@@ -52,7 +53,7 @@ fn show_sets<'a>(rt: &HostRuntime) -> Result<(), Stop<'a>> {
 }
 
 // The whole task: the built-in sets, what an unlawful set gets, and what being below the line costs.
-fn show_all<'a>(rt: &HostRuntime) -> Result<(), Stop<'a>> {
+fn show_all(rt: &HostRuntime) -> Result<(), Stop> {
     println!(rt; "{OPENING}")?;
     show_sets(rt)?;
     println!(rt; "")?;
@@ -64,54 +65,47 @@ fn show_all<'a>(rt: &HostRuntime) -> Result<(), Stop<'a>> {
     Ok(())
 }
 
+// The draft that a file states.
+fn load_draft(rt: &HostRuntime, path: &str) -> Result<Draft, BadFile> {
+    let text = fs::read(rt, path)?;
+    Ok(read_set(text.as_slice())?)
+}
+
 // The set that a file states.
-fn load_set<'a>(rt: &HostRuntime, path: &'a str) -> Result<Set, Stop<'a>> {
-    let text = fs::read(rt, path).map_err(|e| Stop::NoFile(path, e))?;
-    let draft = read_set(text.as_slice()).map_err(|fault| Stop::BadFile(path, fault))?;
+fn load_set(rt: &HostRuntime, path: String) -> Result<Set, Stop> {
+    let draft = load_draft(rt, path.as_str()).map_err(|why| Stop::File(path, why))?;
     Ok(Set::make(&proposal(&draft))?)
 }
 
 // The report on the set of a file.
-fn show_file<'a>(rt: &HostRuntime, path: &'a str) -> Result<(), Stop<'a>> {
-    print_report(rt, &load_set(rt, path)?)?;
-    Ok(())
+fn show_file(rt: &HostRuntime, path: String) -> Result<(), Stop> {
+    Ok(print_report(rt, &load_set(rt, path)?)?)
 }
 
-// Does what a command and its words ask.
-fn obey<'a>(rt: &HostRuntime, command: &str, words: &[&'a str]) -> Result<(), Stop<'a>> {
-    match (command, words) {
-        ("help", []) => Ok(println!(rt; "{HELP}")?),
-        ("sets", []) => show_sets(rt),
-        ("set", [path]) => show_file(rt, path),
+// Does what the words of the command line ask.
+fn run(rt: &HostRuntime) -> Result<(), Stop> {
+    let mut words = env::args(rt)?.skip(1);
+    let Some(command) = words.next() else {
+        return show_all(rt);
+    };
+    let file = words.next();
+    if words.next().is_some() {
+        return Err(Stop::Usage);
+    }
+    match (command.as_str(), file) {
+        ("help", None) => Ok(println!(rt; "{HELP}")?),
+        ("sets", None) => show_sets(rt),
+        ("set", Some(path)) => show_file(rt, path),
         _ => Err(Stop::Usage),
     }
 }
 
-// The words of the command line after the program's own.
-fn read_words(rt: &HostRuntime) -> io::Result<Vec<String>> {
-    Ok(env::args(rt)?.skip(1).collect(rt.alloc())?)
-}
-
-fn run<'a>(rt: &HostRuntime, words: &'a [String]) -> Result<(), Stop<'a>> {
-    let texts: Vec<&'a str> = words.iter().map(|word| word.as_str()).collect(rt.alloc())?;
-    match texts.as_slice() {
-        [] => show_all(rt),
-        [command, rest @ ..] => obey(rt, command, rest),
-    }
-}
-
-// Tells what ended a run.
-fn fail(rt: &HostRuntime, stop: Stop) -> ExitCode {
-    let _ = eprintln!(rt; "{stop}");
-    ExitCode::FAILURE
-}
-
 fn main(rt: HostRuntime) -> ExitCode {
-    match read_words(&rt) {
-        Ok(words) => match run(&rt, words.as_slice()) {
-            Ok(()) => ExitCode::SUCCESS,
-            Err(stop) => fail(&rt, stop),
-        },
-        Err(e) => fail(&rt, Stop::Io(e)),
+    match run(&rt) {
+        Ok(()) => ExitCode::SUCCESS,
+        Err(stop) => {
+            let _ = eprintln!(rt; "{stop}");
+            ExitCode::FAILURE
+        }
     }
 }
