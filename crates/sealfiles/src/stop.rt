@@ -11,10 +11,10 @@ use words::Told;
 #[derive(Debug, Drop, Error)]
 pub enum Stop<'a> {
     // A set that is not lawful.
-    #[error("{}", Told { why: *.0 })]
+    #[error("{}", Told {why: *.0})]
     Refused(#[from] SetFault),
     // A call that said no.
-    #[error("{}", Told { why: *.0 })]
+    #[error("{}", Told {why: *.0})]
     Denied(#[from] Denial),
     // A file that states no set.
     #[error("{0}: {1}")]

@@ -19,7 +19,7 @@ pub enum BadFile {
 #[derive(Debug, Drop, Error)]
 pub enum Stop {
     // A set that is not lawful.
-    #[error("{}", Told { why: *.0 })]
+    #[error("{}", Told {why: *.0})]
     Refused(#[from] SetFault),
     // A file that gave no set.
     #[error("{0}: {1}")]
