@@ -1,13 +1,13 @@
-// The sorts that are packed: residues, each of which forms a group, that have a field width.
+// The sorts that are packed: residues that form a group, whichever, and have a field width.
 ghost use Rattle.std.specs.Prelude.{◌≡◌, ℕ, ◌≤◌};
 ghost use Rattle.params.specs.declared.moduli.Moduli.{Moduli};
 ghost use Rattle.std.proofs.Common.{rules};
 
 use params::moduli::Moduli;
-use ring::{Residue, Rounded, Symbol};
+use ring::{Group, Residue, Rounded, Symbol};
 
 // A sort with a field width, by which it is packed. Coefficients before rounding have none.
-pub trait Field: Residue {
+pub trait Field: Group + Residue {
     ghost width: { Moduli → ℕ };
 
     fn field_width(moduli: Moduli) -> u32

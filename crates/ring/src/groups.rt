@@ -1,4 +1,4 @@
-// Commutative groups: the one that residues form, of whatever sort, and that of signed words, when their sums wrap.
+// Commutative groups: the one that residues form whose sums wrap, of whatever sort, and that of signed words, when their sums wrap.
 ghost use Rattle.std.specs.Prelude.{◌≡◌, ◌^◌, ◌<◌, pos, ◌+ℤ◌, ◌-ℤ◌, if◌then◌else◌, FitsSigned};
 ghost use Rattle.std.proofs.Common.{sym, ap, ◌∙◌, rules};
 ghost use Rattle.ring.specs.GroupLaws.{GroupLaws};
@@ -7,7 +7,7 @@ ghost use Rattle.std.proofs.lemmas.Int.{SFits-int_wrap, int_wrap-add_left, int_w
 ghost use Rattle.std.specs.Int.{int_wrap, w32};
 ghost use Rattle.std.proofs.Math.IntN.{+ℤ_assoc, +ℤ_idr, -ℤ-+ℤ_cancel};
 
-use crate::residues::Residue;
+use crate::residues::Wrapping;
 
 // A commutative group. Its laws hold of the values that fit their word, as every value of the code does.
 pub trait Group: Copy {
@@ -43,7 +43,7 @@ pub trait Group: Copy {
     ghost laws: { GroupLaws none plus minus fits };
 }
 
-impl<R: Residue> Group for R {
+impl<R: Wrapping> Group for R {
     ghost none = { R.made 0 };
 
     ghost plus = { λ x y. R.made (add16 (R.bare x) (R.bare y)) };

@@ -10,7 +10,7 @@ mod whole;
 
 pub use groups::Group;
 pub use laws::ring_laws;
-pub use residues::Residue;
+pub use residues::{Operand, Residue, Wrapping};
 pub use sorts::{Coefficient, Rounded, Sort, Symbol};
 pub use sparse::multiply;
 pub use whole::{multiply_residues, multiply_signed};

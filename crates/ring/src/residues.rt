@@ -1,4 +1,4 @@
-// Residues: what is a word of 16 bits, by itself or as a sort of its own. Each forms a group, and is a sort that the product takes.
+// Residues: what is a word of 16 bits, by itself or as a sort of its own; those whose sums wrap, and those that the product takes.
 ghost use Rattle.std.specs.Prelude.{◌≡◌, ℕ};
 ghost use Rattle.std.proofs.Common.{rules};
 
@@ -18,6 +18,14 @@ pub trait Residue: Copy {
 
     ghost forth: { (x : Self) → made (bare x) ≡ x };
 }
+
+// A residue whose sums wrap as a word's do. A sort with sums of its own is no such residue, and says itself which group it forms.
+pub trait Wrapping: Residue {}
+
+// A residue that the product takes. Symbols are none, nor are plain words: no sort is taken for another.
+pub trait Operand: Residue {}
+
+impl Wrapping for u16 {}
 
 impl Residue for u16 {
     ghost bare = { λ x. x };

@@ -5,7 +5,7 @@ ghost use Rattle.std.proofs.Common.{rules};
 ghost use Rattle.std.proofs.lemmas.Int.{SFits-int_wrap};
 
 use crate::groups::Group;
-use crate::residues::Residue;
+use crate::residues::{Operand, Residue, Wrapping};
 
 // A coefficient before rounding: a word that stands for a residue modulo q.
 #[derive(Clone, Copy, PartialEq, Eq, Debug)]
@@ -74,6 +74,16 @@ impl Residue for Symbol {
     }
 }
 
+impl Wrapping for Coefficient {}
+
+impl Wrapping for Rounded {}
+
+impl Wrapping for Symbol {}
+
+impl Operand for Coefficient {}
+
+impl Operand for Rounded {}
+
 // What a polynomial may be made of, and the word in which the product adds it up.
 pub trait Sort: Copy {
     type Word: Group;
@@ -86,7 +96,7 @@ pub trait Sort: Copy {
     ghost whole: { (x : Self) → Self.Word.fits (bare x) };
 }
 
-impl<R: Residue> Sort for R {
+impl<R: Operand> Sort for R {
     type Word = u16;
 
     ghost bare = { λ x. R.bare x % 2 ^ 16 };

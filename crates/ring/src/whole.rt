@@ -3,11 +3,11 @@ ghost use Rattle.std.specs.Prelude.{◌≡◌, ℕ, ◌+◌, ◌^◌, ◌≤◌,
 ghost use Rattle.ring.specs.Lists.{signed};
 ghost use Rattle.ring.specs.Cyclic.{Within, cyclic_words, cyclic_signed};
 
-use crate::residues::Residue;
+use crate::residues::Operand;
 use crate::sparse::multiply;
 
-// Residues of any sort: words that hold the product modulo 2^16.
-pub fn multiply_residues<R: Residue>(poly: &[R], secret: &[u16], out: &mut [u16])
+// Coefficients before rounding or after: words that hold the product modulo 2^16.
+pub fn multiply_residues<R: Operand>(poly: &[R], secret: &[u16], out: &mut [u16])
     requires long { length out.old ≡ length poly.now + 1 }
     requires within { Within (length poly.now) secret.now }
     ensures { out.new ≡ cyclic_words (length poly.now) (map R.bare poly.now) secret.now }

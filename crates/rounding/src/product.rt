@@ -6,12 +6,12 @@ ghost use Rattle.rounding.specs.Symbols.{rounded_product, slips, cross_product, 
 
 use crate::lists::{noise, raw_bits, round_product, slips, symbols};
 use params::moduli::Moduli;
-use ring::{Coefficient, Residue, Rounded, Symbol, multiply_residues};
+use ring::{Coefficient, Operand, Rounded, Symbol, multiply_residues};
 
 // The lent product area: n + 1 words that hold the cyclic product of these n coefficients and this secret, modulo 2^16. Its methods need no premise on the
 // words, as the functions over any words do.
 #[derive(Drop)]
-pub struct Product<'a, R: Residue> {
+pub struct Product<'a, R: Operand> {
     pub poly: &'a [R],
     pub secret: &'a [u16],
     pub words: &'a [u16],
@@ -19,7 +19,7 @@ pub struct Product<'a, R: Residue> {
     ghost holds: { words.now ≡ cyclic_words (length poly.now) (map R.bare poly.now) secret.now },
 }
 
-impl<'a, R: Residue> Product<'a, R> {
+impl<'a, R: Operand> Product<'a, R> {
     // Multiplies in the product area.
     pub fn of(poly: &'a [R], secret: &'a [u16], area: &'a mut [u16]) -> Product<'a, R>
         requires long { length area.old ≡ length poly.now + 1 }
