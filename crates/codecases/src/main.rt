@@ -13,7 +13,7 @@ use std::io;
 use words::show_words;
 
 // One flip is mended: 8 payload bits and checks of 3 and 4.
-const SMALL: Proposal<&'static [u16]> = Proposal {
+const SMALL: Proposal<'static> = Proposal {
     n: 16,
     h: 2,
     qb: 9,
@@ -26,7 +26,7 @@ const SMALL: Proposal<&'static [u16]> = Proposal {
 };
 
 // Two flips are mended: 8 payload bits and checks of 3, 4, 5 and 7.
-const DOUBLE: Proposal<&'static [u16]> = Proposal {
+const DOUBLE: Proposal<'static> = Proposal {
     n: 28,
     h: 2,
     qb: 9,
@@ -39,7 +39,7 @@ const DOUBLE: Proposal<&'static [u16]> = Proposal {
 };
 
 // Five flips are mended: 256 payload bits, ten checks, the first by blocks.
-const LARGE: Proposal<&'static [u16]> = Proposal {
+const LARGE: Proposal<'static> = Proposal {
     n: 1170,
     h: 222,
     qb: 13,
@@ -54,7 +54,7 @@ const LARGE: Proposal<&'static [u16]> = Proposal {
 // Runs cases over the code of a set.
 fn run_cases<F: FnOnce(&Code) -> io::Result<()>>(
     rt: &HostRuntime,
-    proposal: &Proposal<&[u16]>,
+    proposal: &Proposal,
     cases: F,
 ) -> io::Result<()>
     requires { F.IsAlwaysCallable cases }

@@ -12,7 +12,7 @@ use params::set::Set;
 #[derive(Clone, Copy)]
 pub struct Listed {
     pub name: &'static str,
-    pub proposal: Proposal<&'static [u16]>,
+    pub proposal: Proposal<'static>,
 }
 
 impl Listed {

@@ -1,11 +1,12 @@
 -- Places in checks, and why the code rule need only be tried at position 0.
 use Rattle.std.proofs.Common.{◌≡◌, ℕ, ◌+◌, ◌-◌, ◌*◌, ◌/◌, ◌%◌, ◌<◌, ◌≤◌, Bool, true, false, cond, eqb, Option, None, Some, MatchOption, sym, refl, ap, ◌∙◌, inl, inr, mod-lt, arith}
 use native.Mathlib.Nat.{mod-add-div', add-mul-mod_self_right, mul-mod_left, zero-mod, zero-div, div-eq_of_lt}
-use Rattle.std.proofs.lemmas.Bool.{cases_eq, cases_Bool, eq-eqb, eqb-true, and_parts, and_from, cond-true, cond-false}
+use Rattle.std.proofs.lemmas.Bool.{cases_eq, cases_Bool, eq-eqb, ne_eqb, eqb-true, and_parts, and_from, cond-true, cond-false}
 use Rattle.std.proofs.lemmas.Nat.{div_below}
 use Rattle.params.specs.declared.shape.Shape.{Shape}
+use Rattle.params.specs.Sums.{bit}
 use Rattle.params.specs.Checks.{check_length, in_blocks, block_length, place_of, SharesTwo, CodeRule, LengthsFit, MarkFits, shared_with_first}
-use Rattle.params.proofs.Sums.{count_two, two_of}
+use Rattle.params.proofs.Sums.{sum_more, count_two, two_of}
 
 -- a payload that is a whole number of blocks has blocks of some length
 pub block_some : (s : Shape) → 0 < s.kappa → s.kappa % check_length s 0 ≡ 0 → 0 < block_length s
@@ -60,7 +61,7 @@ moved s some mark j k d e = by (in_blocks s j) refl e
     by false t e = apart_mod k d (check_length s j) e
 
 -- the code rule holds where no position shares two checks with position 0
-rule_by_first : (s : Shape) → 0 < s.kappa → MarkFits s → ((d : ℕ) → 1 ≤ d → d < s.kappa → shared_with_first s d (2 * s.f) ≤ 1) → CodeRule s
+pub rule_by_first : (s : Shape) → 0 < s.kappa → MarkFits s → ((d : ℕ) → 1 ≤ d → d < s.kappa → shared_with_first s d (2 * s.f) ≤ 1) → CodeRule s
 rule_by_first s some mark alone a b c =
     let d = b - a in
     let is : a + d ≡ b = omega (arith, c.order) in
@@ -73,7 +74,7 @@ rule_by_first s some mark alone a b c =
     )
 
 -- two checks shared with position 0 break it
-shares_by_first : (s : Shape) (d : ℕ) → 1 ≤ d → d < s.kappa → 2 ≤ shared_with_first s d (2 * s.f) → SharesTwo s 0 d
+pub shares_by_first : (s : Shape) (d : ℕ) → 1 ≤ d → d < s.kappa → 2 ≤ shared_with_first s d (2 * s.f) → SharesTwo s 0 d
 shares_by_first s d low high two =
     let r = two_of (2 * s.f) (λ j. eqb (place_of s j d) 0) two in
     record {
@@ -86,6 +87,13 @@ shares_by_first s d low high two =
       in_i = place_zero s r.0 ∙ sym (eqb-true _ 0 r.4);
       in_j = place_zero s r.1 ∙ sym (eqb-true _ 0 r.5);
     }
+
+-- one check more
+pub shared_more : (s : Shape) (d j at v u : ℕ) → at ≡ place_of s j d → v ≡ shared_with_first s d j → at ≡ 0 → u ≡ v + 1 → u ≡ shared_with_first s d (j + 1)
+shared_more s d j at v u e is z up = omega (arith, sum_more j (λ i. bit (eqb (place_of s i d) 0)), ap bit (eq-eqb (place_of s j d) 0 (sym e ∙ z)))
+
+pub shared_kept : (s : Shape) (d j at v u : ℕ) → at ≡ place_of s j d → v ≡ shared_with_first s d j → (at ≡ 0 → ⊥) → u ≡ v → u ≡ shared_with_first s d (j + 1)
+shared_kept s d j at v u e is nz up = omega (arith, sum_more j (λ i. bit (eqb (place_of s i d) 0)), ap bit (ne_eqb (place_of s j d) 0 (λ z. nz (e ∙ z))))
 
 -- the first position that shares two checks with position 0, if there is one
 pub first_shared : (s : Shape) (r : Option ℕ) → 0 < s.kappa → MarkFits s → MatchOption r ((d : ℕ) → 1 ≤ d → d < s.kappa → shared_with_first s d (2 * s.f) ≤ 1) (λ d. (1 ≤ d) × (d < s.kappa) × (2 ≤ shared_with_first s d (2 * s.f)) × ((k : ℕ) → 1 ≤ k → k < d → shared_with_first s k (2 * s.f) ≤ 1)) → MatchOption r (CodeRule s) (λ d. SharesTwo s 0 d)

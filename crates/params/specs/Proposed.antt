@@ -1,10 +1,10 @@
 -- What is proposed for a set, however its check lengths are held.
 use Rattle.std.specs.Prelude.{ℕ, List}
 use Rattle.std.specs.Borrow.{Bor}
-use Rattle.params.specs.declared.proposal.Proposal.{Proposal}
+use Rattle.params.specs.declared.proposal.ProposalOf.{ProposalOf}
 
 -- the same numbers with other check lengths
-abbrev pub with_lengths : {L M : Type 0} → Proposal L → M → Proposal M
+abbrev pub with_lengths : {L M : Type 0} → ProposalOf L → M → ProposalOf M
 with_lengths p lengths = record {
   n = p.n;
   h = p.h;
@@ -19,4 +19,4 @@ with_lengths p lengths = record {
 
 -- a proposal of check lengths that are lent, as sets are made from
 abbrev pub LentProposal : Type 0
-LentProposal = Proposal (Bor (List ℕ))
+LentProposal = ProposalOf (Bor (List ℕ))

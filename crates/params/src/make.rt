@@ -24,7 +24,7 @@ impl From<Rule> for SetFault {
 }
 
 // The moduli that are proposed.
-fn lawful_moduli(p: &Proposal<&[u16]>) -> Moduli
+fn lawful_moduli(p: &Proposal) -> Moduli
     requires exponents { Keeps Exponents p.now }
     requires balance { Keeps Balance p.now }
     ensures { (result.qb ≡ p.now.qb) × (result.pb ≡ p.now.pb) × (result.tb ≡ p.now.tb) }
@@ -51,7 +51,7 @@ fn lawful_code(layout: &Layout, mu: u16) -> Result<Code, SetFault>
 
 impl Set {
     // Makes the set that is proposed: Ok exactly if the proposal is lawful, and then the set holds what was proposed.
-    pub fn make(proposal: &Proposal<&[u16]>) -> Result<Set, SetFault>
+    pub fn make(proposal: &Proposal) -> Result<Set, SetFault>
         ensures { MatchResult result (λ s. Lawful proposal.now × Holds s proposal.now) (λ e. Told e proposal.now × (Lawful proposal.now → ⊥)) }
     {
         let (layout, mu) = judge(proposal)?;

@@ -4,7 +4,7 @@ ghost use Rattle.params.specs.Proposed.{with_lengths};
 
 // The numbers of a set as a user states them, of which no rule is promised, and its check lengths, however they are held.
 #[derive(Clone, Copy)]
-pub struct Proposal<L> {
+pub struct ProposalOf<L> {
     pub n: u16,
     pub h: u16,
     pub qb: u16,
@@ -16,12 +16,15 @@ pub struct Proposal<L> {
     pub lengths: L,
 }
 
-impl<L> Proposal<L> {
+// A proposal of check lengths that are lent, as sets are made from.
+pub type Proposal<'a> = ProposalOf<&'a [u16]>;
+
+impl<L> ProposalOf<L> {
     // The same numbers with other check lengths.
-    pub fn with_lengths<M>(&self, lengths: M) -> Proposal<M>
+    pub fn with_lengths<M>(&self, lengths: M) -> ProposalOf<M>
         ensures { result ≡ with_lengths self.now lengths }
     {
-        Proposal {
+        ProposalOf {
             n: self.n,
             h: self.h,
             qb: self.qb,

@@ -40,13 +40,13 @@ fn is_multiple(x: u16, step: u16, least: u16, most: u16) -> bool
     x >= least && x <= most && x % step == 0
 }
 
-fn keeps_exponents(p: &Proposal<&[u16]>) -> bool
+fn keeps_exponents(p: &Proposal) -> bool
     ensures { Decides result (Keeps Exponents p.now) }
 {
     p.tb >= 1 && p.tb < p.pb && p.pb < p.qb && p.qb <= WORD_BITS
 }
 
-fn keeps_balance(p: &Proposal<&[u16]>) -> bool
+fn keeps_balance(p: &Proposal) -> bool
     ensures { Decides result (Keeps Balance p.now) }
 {
     p.tb as u32 + p.qb as u32 <= 2 * p.pb as u32
@@ -61,7 +61,7 @@ fn lengths_fit(lengths: &[u16]) -> bool
         .all(|long| *long >= 1 && *long <= LONGEST_CHECK)
 }
 
-fn keeps_lengths(p: &Proposal<&[u16]>) -> bool
+fn keeps_lengths(p: &Proposal) -> bool
     ensures { Decides result (Keeps Lengths p.now) }
 {
     p.lengths.len() == 2 * p.f as usize && lengths_fit(p.lengths)
@@ -78,7 +78,7 @@ fn padded(lengths: &[u16]) -> [u16; MOST_CHECKS]
 }
 
 // The code that is proposed.
-fn proposed_shape(p: &Proposal<&[u16]>) -> Shape
+fn proposed_shape(p: &Proposal) -> Shape
     requires { length p.now.lengths.now ≤ most_checks }
     ensures { result ≡ shape_of p.now }
 {
@@ -106,7 +106,7 @@ fn ask(kept: bool, rule: Rule) -> Result<(), Rule>
 }
 
 // Rules 1 to 6, which speak of numbers alone.
-fn judge_numbers(p: &Proposal<&[u16]>) -> Result<(), Rule>
+fn judge_numbers(p: &Proposal) -> Result<(), Rule>
     ensures { MatchResult result (λ _. KeepsBelow 7 p.now) (λ k. LowestBroken k p.now) }
 {
     ask(is_multiple(p.n, 2, 8, MOST_N), Rule::RingSize)?;
@@ -118,7 +118,7 @@ fn judge_numbers(p: &Proposal<&[u16]>) -> Result<(), Rule>
 }
 
 // All nine rules: the code that is proposed and its symbol count, or the lowest rule that is broken.
-pub(crate) fn judge(p: &Proposal<&[u16]>) -> Result<(Layout, u16), Rule>
+pub(crate) fn judge(p: &Proposal) -> Result<(Layout, u16), Rule>
     ensures { MatchResult result (λ s. Judged p.now s.0.shape s.1) (λ k. LowestBroken k p.now) }
 {
     judge_numbers(p)?;

@@ -3,13 +3,13 @@ use Rattle.std.specs.Prelude.{◌≡◌, ℕ, ◌-◌, ◌*◌, List, ◌++◌, 
 use Rattle.params.specs.Limits.{most_checks}
 use Rattle.params.specs.Rules.{Lawful}
 use Rattle.params.specs.Proposed.{LentProposal}
-use Rattle.params.specs.declared.proposal.Proposal.{Proposal}
+use Rattle.params.specs.declared.proposal.ProposalOf.{ProposalOf}
 use Rattle.params.specs.declared.set.Set.{Set}
 use Rattle.params.specs.declared.shape.Shape.{Shape}
 
 -- the numbers of a set with the whole table of its check lengths
 abbrev pub KeptNumbers : Type 0
-KeptNumbers = Proposal (List ℕ)
+KeptNumbers = ProposalOf (List ℕ)
 
 -- the check lengths of a code, filled with zeros
 abbrev pub kept_lengths : Shape → List ℕ

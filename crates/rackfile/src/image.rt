@@ -1,10 +1,10 @@
 // What a rack file holds.
 use params::MOST_CHECKS;
-use params::proposal::Proposal;
+use params::proposal::ProposalOf;
 use rack::{PLACES, Record};
 
 /// The numbers of a set, of which no rule is promised. The check lengths stand first in their table.
-pub type Numbers = Proposal<[u16; MOST_CHECKS]>;
+pub type Numbers = ProposalOf<[u16; MOST_CHECKS]>;
 
 /// The numbers of a set, and the places of a rack.
 #[derive(Clone, Copy)]

@@ -5,7 +5,7 @@ ghost use Rattle.rackfile.specs.Sets.{kept_lengths, numbers_of, proposed, Propos
 
 use crate::image::Numbers;
 use params::MOST_CHECKS;
-use params::proposal::Proposal;
+use params::proposal::{Proposal, ProposalOf};
 use params::set::Set;
 use params::shape::Shape;
 
@@ -25,7 +25,7 @@ pub fn numbers_of(set: &Set) -> Numbers
     ensures value { result ≡ numbers_of set.now }
     ensures lawful { LawfulNumbers result }
 {
-    Proposal {
+    ProposalOf {
         n: set.n,
         h: set.h,
         qb: set.moduli.qb as u16,
@@ -47,7 +47,7 @@ fn check_lengths(numbers: &Numbers) -> &[u16]
 }
 
 /// The proposal of a set with these numbers.
-pub fn proposal_of(numbers: &Numbers) -> Proposal<&[u16]>
+pub fn proposal_of(numbers: &Numbers) -> Proposal<'_>
     ensures { Proposes result numbers.now }
 {
     numbers.with_lengths(check_lengths(numbers))

@@ -9,7 +9,7 @@ use crate::places::read_places;
 use crate::writing::{LETTERS, encode};
 use crate::{LETTERS_END, NUMBERS_END, PLACES_END, RACK_FILE_BYTES};
 use params::MOST_CHECKS;
-use params::proposal::Proposal;
+use params::proposal::ProposalOf;
 
 // Reads the numbers of a set; the block mark is set unless its byte is 0.
 fn read_numbers(bytes: &[u8]) -> Numbers
@@ -20,7 +20,7 @@ fn read_numbers(bytes: &[u8]) -> Numbers
     let mut lengths = [0u16; MOST_CHECKS];
     read_words(&bytes[0..14], &mut words);
     read_words(&bytes[15..35], &mut lengths);
-    Proposal {
+    ProposalOf {
         n: words[0],
         h: words[1],
         qb: words[2],

@@ -1,7 +1,7 @@
 -- What a set file means, line by line.
 use Rattle.std.specs.Prelude.{ℕ, ◌+◌, false, cond, List, [], ◌∷◌, replicate, is_some, Some, None, Ok, Err, codes, Option, Result, slice_index_or, slice_set}
 use Rattle.std.specs.Option.{unwrap_or}
-use Rattle.params.specs.declared.proposal.Proposal.{Proposal}
+use Rattle.params.specs.declared.proposal.ProposalOf.{ProposalOf}
 use Rattle.setfile.specs.Scan.{blank, before, after, parts, says}
 use Rattle.setfile.specs.Values.{bind, number_of, no_lengths, lengths_of, mark_of}
 use Rattle.setfile.specs.declared.field.Number.{Number}
@@ -121,7 +121,7 @@ stated d which = given_or (slice_index_or d.numbers (place which) None) which
 
 -- a set as a file states it
 abbrev pub Draft : Type 0
-Draft = Proposal Held
+Draft = ProposalOf Held
 
 -- all that has to be stated: a list that is not is empty, and a mark that is not is no
 abbrev pub draft_of : Found → Result Draft Fault

@@ -5,7 +5,7 @@ use crate::draft::Draft;
 use params::proposal::Proposal;
 
 // The proposal that a draft makes.
-pub fn proposal(draft: &Draft) -> Proposal<&[u16]>
+pub fn proposal(draft: &Draft) -> Proposal<'_>
     ensures { Proposes result draft.now }
 {
     draft.with_lengths(draft.lengths.given())

@@ -1,14 +1,18 @@
-use Rattle.std.proofs.Common.{ℕ, ◌*◌, ◌∙◌, Bool, refl, nat_eq, rules, tests, arith}
-use Rattle.std.proofs.lemmas.Iterator.{YieldsList-from_range}
-use Rattle.std.proofs.lemmas.Iterator.Consumers.{YieldsList-at, YieldsList-from_filter, count_from_yields_List}
-use Rattle.params.specs.Checks.{place_of}
-use Rattle.params.proofs.Sums.{count_range}
+use Rattle.std.proofs.Common.{sym, arith}
+use Rattle.params.proofs.Sums.{sum_none}
+use Rattle.params.proofs.Places.{shared_more, shared_kept}
 use Rattle.params.proofs.blocks.Layout.count_shared.Goals as goal
+use Rattle.params.proofs.blocks.Layout.count_shared.Goals.{then-place-eq0, else-place-eq0}
 
-pub returns : goal.returns
-returns c =
-    let s = c.args.self.now.shape in
-    let n = 2 * s.f in
-    let at_first : ℕ → Bool = λ j. nat_eq (place_of s j c.args.d) 0 in
-    count_from_yields_List c.filter.result _ c.count.ensures.ran (YieldsList-from_filter _ at_first (YieldsList-at c.filter.ensures.source (YieldsList-from_range 0 n n refl (omega arith))) c.filter.ensures.closure (λ j b q k. (search rules, grind (arith, tests))))
-    ∙ count_range n at_first
+pub loop-j-init : goal.loop-j-init
+loop-j-init c = (omega arith, sym (sum_none _))
+
+pub loop-j-preserved : goal.loop-j-preserved
+loop-j-preserved c =
+    let s = c.args.self.now.shape in (
+      elim c.if-place-eq0.branch [ then-place-eq0 w ↦ omega (arith, w.count-is) | else-place-eq0 w ↦ omega (arith, w.count-is) ],
+      elim c.if-place-eq0.branch [
+        | then-place-eq0 w ↦ shared_more s c.args.d c.loop-j.j c.place.result c.loop-j.count _ c.place.ensures.at c.loop-j.invariant.1 w.if-place-eq0.true w.count-is
+        | else-place-eq0 w ↦ shared_kept s c.args.d c.loop-j.j c.place.result c.loop-j.count _ c.place.ensures.at c.loop-j.invariant.1 w.if-place-eq0.false w.count-is
+      ],
+    )
