@@ -1,6 +1,5 @@
 -- The number of each refusal, and its values: 13 to 20. (15 and 16 are those of a key's or parcel's bytes.)
 use Rattle.std.specs.Prelude.{ℕ, List, [], ◌∷◌}
-use Rattle.sampler.specs.Expanded.{label_number}
 use Rattle.wire.specs.Faults.{fault_numbers}
 use Rattle.calls.specs.declared.refusal.Buffer.{Buffer}
 use Rattle.calls.specs.declared.refusal.Buffer.TheVariants.{Output, SecretOutput, SecretArea, ProductArea}
@@ -26,4 +25,4 @@ refusal_numbers (PlaceInUse place) = 20 ∷ place ∷ []
 refusal_numbers (WrongBuffer buffer) = 13 ∷ buffer_number buffer ∷ []
 refusal_numbers (WrongInput input long) = 14 ∷ input_number input ∷ long ∷ []
 refusal_numbers (Form fault) = fault_numbers fault
-refusal_numbers (Short fault) = 17 ∷ label_number fault.label ∷ fault.entry ∷ fault.bytes ∷ []
+refusal_numbers (Short fault) = 17 ∷ fault.label ∷ fault.entry ∷ fault.bytes ∷ []

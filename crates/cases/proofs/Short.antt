@@ -2,7 +2,6 @@
 use Rattle.std.proofs.Common.{◌≡◌, ℕ, List, [], Ok, Err, Result, refl, ap, ◌∙◌, ap₂}
 use Rattle.source.specs.declared.SourceFault.TheVariants as Source
 use Rattle.params.specs.declared.set.Set.{Set}
-use Rattle.sampler.specs.declared.Label.TheVariants.{Secret}
 use Rattle.sampler.specs.Expanded.{expanded_secret}
 use Rattle.sampler.specs.declared.SamplerFault.{SamplerFault}
 use Rattle.calls.specs.Areas.{area_words}
@@ -13,9 +12,9 @@ use Rattle.scheme.specs.Scheme.{secret_positions, bits_in}
 use Rattle.lab.specs.Lab.{read_checks, raw_read, reading}
 use Rattle.cases.specs.Cases.{short_tape}
 
--- the fault: the source's, the label of a secret, entry 1, 6 bytes
+-- the fault: the source's, label 2, entry 1, 6 bytes
 abbrev fault : SamplerFault
-fault = record { source = Source.Short; label = Secret; entry = 1; bytes = 6 }
+fault = record { source = Source.Short; label = 2; entry = 1; bytes = 6 }
 
 -- the first six bytes keep one position of the two
 short_secret : expanded_secret 10 2 (short_tape 2 []) ≡ Err fault

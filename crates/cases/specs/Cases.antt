@@ -4,7 +4,6 @@ use Rattle.source.specs.declared.SourceFault.TheVariants as Source
 use Rattle.params.specs.Checks.{SharesTwo}
 use Rattle.params.specs.declared.shape.Shape.{Shape}
 use Rattle.params.specs.declared.set.Set.{Set}
-use Rattle.sampler.specs.declared.Label.TheVariants.{Secret}
 use Rattle.sampler.specs.Expanded.{expanded_secret}
 use Rattle.ring.specs.Lists.{listed}
 use Rattle.ring.specs.Cyclic.{reduced}
@@ -58,8 +57,8 @@ pub record WorkedCases : Type 0 where
   pub runs_short : (s : Set) (parcel seed : List ℕ) → s.n ≡ 10 → s.h ≡ 2
       → read_checks s s.code.mu area_words area_words parcel seed ≡ Ok tt
       → raw_read_answer short_tape s s.code.mu area_words area_words parcel seed
-      ≡ Err (Short (record { source = Source.Short; label = Secret; entry = 1; bytes = 6 }))
-  pub short_numbers : refusal_numbers (Short (record { source = Source.Short; label = Secret; entry = 1; bytes = 6 })) ≡ 17 ∷ 2 ∷ 1 ∷ 6 ∷ []
+      ≡ Err (Short (record { source = Source.Short; label = 2; entry = 1; bytes = 6 }))
+  pub short_numbers : refusal_numbers (Short (record { source = Source.Short; label = 2; entry = 1; bytes = 6 })) ≡ 17 ∷ 2 ∷ 1 ∷ 6 ∷ []
   -- a = 3, 1, then zeros, times that secret: 3, 1, seven zeros, -3, -1; reduced 4, 2, seven ones, -2; rounded 1, 1, then zeros
   pub cyclic_product : listed 11 worked_cyclic ≡ pos 3 ∷ pos 1 ∷ pos 0 ∷ pos 0 ∷ pos 0 ∷ pos 0 ∷ pos 0 ∷ pos 0 ∷ pos 0 ∷ negsuc 2 ∷ negsuc 0 ∷ []
   pub reduced_product : listed 10 (reduced 10 worked_cyclic) ≡ pos 4 ∷ pos 2 ∷ pos 1 ∷ pos 1 ∷ pos 1 ∷ pos 1 ∷ pos 1 ∷ pos 1 ∷ pos 1 ∷ negsuc 1 ∷ []

@@ -5,11 +5,10 @@ use Rattle.std.proofs.lemmas.Nat.{pow_pos, mod_below}
 use Rattle.std.proofs.ByRecursion.{All-push, All-take}
 use Rattle.std.proofs.lemmas.List.{length-take-le}
 use Rattle.std.proofs.lemmas.Bool.{ltb-true, cond_both, or_parts, eqb-false}
-use Rattle.sampler.specs.declared.Label.TheVariants.{Public, Secret}
 use Rattle.sampler.specs.declared.SamplerFault.{SamplerFault}
 use Rattle.sampler.specs.Values.{values, residues}
 use Rattle.sampler.specs.Positions.{marks_room, share, has, kept, kept_from}
-use Rattle.sampler.specs.Expanded.{expanded_public, expanded_secret}
+use Rattle.sampler.specs.Expanded.{public_label, secret_label, expanded_public, expanded_secret}
 use Rattle.sampler.specs.Facts.{Distinct, Reduced, Picked, Shortfall}
 use Rattle.sampler.proofs.First.{first_front, first_shortfall}
 use Rattle.sampler.proofs.Table.{position_below}
@@ -22,13 +21,13 @@ residues_below qb (v ∷ vs) = (mod_below v (2 ^ qb) (pow_pos qb), residues_belo
 pub public_reduced : (qb n : ℕ) (list out : List ℕ) → expanded_public qb n list ≡ Ok out → Reduced qb n out
 unfolding expanded_public
 public_reduced qb n list out e =
-    let f = first_front Public n (residues qb (values list)) (values list) out e in
+    let f = first_front public_label n (residues qb (values list)) (values list) out e in
     subst (Reduced qb n) f.1 (record { count = length-take-le n _ f.0; below = All-take _ n _ (residues_below qb (values list)) })
 
 -- A public polynomial that cannot be made: the list ran short.
-pub public_shortfall : (qb n : ℕ) (list : List ℕ) (fault : SamplerFault) → expanded_public qb n list ≡ Err fault → Shortfall Public n list fault
+pub public_shortfall : (qb n : ℕ) (list : List ℕ) (fault : SamplerFault) → expanded_public qb n list ≡ Err fault → Shortfall public_label n list fault
 unfolding expanded_public
-public_shortfall qb n list fault e = first_shortfall Public n (residues qb (values list)) list fault e
+public_shortfall qb n list fault e = first_shortfall public_label n (residues qb (values list)) list fault e
 
 distinct_push : (ps : List ℕ) (p : ℕ) → Distinct ps → has p ps ≡ false → Distinct (ps ++ (p ∷ []))
 distinct_push [] p d e = (tt, tt)
@@ -62,11 +61,11 @@ kept_from_apart n ps (v ∷ vs) a b k = kept_from_apart n (kept n ps v) vs a b (
 pub secret_picked : (n h : ℕ) (list out : List ℕ) → 0 < n → n ≤ marks_room → expanded_secret n h list ≡ Ok out → Picked n h out
 unfolding expanded_secret
 secret_picked n h list out a b e =
-    let f = first_front Secret h (kept_from n [] (values list)) (values list) out e in
+    let f = first_front secret_label h (kept_from n [] (values list)) (values list) out e in
     let k = kept_from_apart n [] (values list) a b (record { below = tt; distinct = tt }) in
     subst (Picked n h) f.1 (record { count = length-take-le h _ f.0; below = All-take _ h _ k.below; distinct = distinct_take h _ k.distinct })
 
 -- A secret that cannot be made: the list ran short.
-pub secret_shortfall : (n h : ℕ) (list : List ℕ) (fault : SamplerFault) → expanded_secret n h list ≡ Err fault → Shortfall Secret h list fault
+pub secret_shortfall : (n h : ℕ) (list : List ℕ) (fault : SamplerFault) → expanded_secret n h list ≡ Err fault → Shortfall secret_label h list fault
 unfolding expanded_secret
-secret_shortfall n h list fault e = first_shortfall Secret h (kept_from n [] (values list)) list fault e
+secret_shortfall n h list fault e = first_shortfall secret_label h (kept_from n [] (values list)) list fault e

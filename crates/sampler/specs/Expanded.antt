@@ -22,7 +22,7 @@ label_number Secret = secret_label
 
 -- The first `count` of the entries that the values vs make. If there are fewer, the source ran short at the entry after
 -- them, with every value drawn, two bytes each.
-abbrev pub first_of : (label : Label) (count : ℕ) (entries vs : List ℕ) → Result (List ℕ) SamplerFault
+abbrev pub first_of : (label count : ℕ) (entries vs : List ℕ) → Result (List ℕ) SamplerFault
 first_of label count entries vs =
     cond (nat_lt (length entries) count)
     (Err (record { source = Short; label = label; entry = length entries; bytes = 2 * length vs }))
@@ -30,8 +30,8 @@ first_of label count entries vs =
 
 -- The public polynomial: n coefficients modulo 2 ^ qb.
 unfoldable pub expanded_public : (qb n : ℕ) (list : List ℕ) → Result (List ℕ) SamplerFault
-expanded_public qb n list = first_of Public n (residues qb (values list)) (values list)
+expanded_public qb n list = first_of public_label n (residues qb (values list)) (values list)
 
 -- A secret of n coefficients: its h positions in the order drawn. They are +1, −1, +1 and so on by turn; the others are 0.
 unfoldable pub expanded_secret : (n h : ℕ) (list : List ℕ) → Result (List ℕ) SamplerFault
-expanded_secret n h list = first_of Secret h (kept_from n [] (values list)) (values list)
+expanded_secret n h list = first_of secret_label h (kept_from n [] (values list)) (values list)

@@ -2,7 +2,6 @@
 use Rattle.std.specs.Prelude.{◌≡◌, ℕ, ◌+◌, ◌*◌, ◌^◌, ◌<◌, ◌≤◌, ◌≢◌, List, [], ◌∷◌, length}
 use Rattle.std.specs.List.{AllByRecursion}
 use Rattle.source.specs.declared.SourceFault.TheVariants.{Short}
-use Rattle.sampler.specs.declared.Label.{Label}
 use Rattle.sampler.specs.declared.SamplerFault.{SamplerFault}
 use Rattle.sampler.specs.Values.{values}
 
@@ -24,7 +23,7 @@ pub record Picked (n h : ℕ) (positions : List ℕ) : Type 0 where
 
 -- What the fault tells when an expansion under the label `tag` wants `room` entries and its list has too few values: the
 -- source's fault, the label, an entry that was wanted, and the bytes drawn, two for each value. Less than a value is left.
-pub record Shortfall (tag : Label) (room : ℕ) (list : List ℕ) (fault : SamplerFault) : Type 0 where
+pub record Shortfall (tag room : ℕ) (list : List ℕ) (fault : SamplerFault) : Type 0 where
   pub source : fault.source ≡ Short
   pub label : fault.label ≡ tag
   pub entry : fault.entry < room

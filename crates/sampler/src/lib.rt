@@ -4,7 +4,7 @@
 ghost use Rattle.std.specs.Prelude.{◌≡◌, ◌+◌, ◌%◌, ◌^◌, ◌<◌, ◌≤◌, [], ◌∷◌, length, take, Ok, Err, MatchResult, Decides};
 ghost use Rattle.sampler.specs.Values.{values};
 ghost use Rattle.sampler.specs.Positions.{marks_room, kept, Marked};
-ghost use Rattle.sampler.specs.Expanded.{public_label, secret_label, expanded_public, expanded_secret};
+ghost use Rattle.sampler.specs.Expanded.{public_label, secret_label, label_number, expanded_public, expanded_secret};
 ghost use Rattle.sampler.specs.Facts.{Reduced, Picked, Shortfall};
 
 use params::MOST_N;
@@ -28,7 +28,8 @@ const VALUES: usize = 65536;
 #[derive(Clone, Copy, PartialEq, Eq, Debug)]
 pub struct SamplerFault {
     pub source: SourceFault,
-    pub label: Label,
+    // Kept: a byte, as a source is started with, since a fault may be told of any label.
+    pub label: u8,
     pub entry: u16,
     pub bytes: u64,
 }
@@ -42,12 +43,12 @@ fn next_value<S: Source>(
     bytes: u64,
 ) -> Result<u16, SamplerFault>
     ensures book { S.book source.new ≡ S.book source.old }
-    ensures cases { MatchResult result (λ v. values (S.rest source.old) ≡ v ∷ values (S.rest source.new)) (λ e. (values (S.rest source.old) ≡ []) × (e ≡ record { source = SourceFault.Short; label = label; entry = entry; bytes = bytes })) }
+    ensures cases { MatchResult result (λ v. values (S.rest source.old) ≡ v ∷ values (S.rest source.new)) (λ e. (values (S.rest source.old) ≡ []) × (e ≡ record { source = SourceFault.Short; label = label_number label; entry = entry; bytes = bytes })) }
 {
     let mut pair = [0u8; 2];
     source.draw(&mut pair).map_err(|source| SamplerFault {
         source,
-        label,
+        label: label as u8,
         entry,
         bytes,
     })?;
@@ -128,7 +129,7 @@ pub fn expand_public<S: Source>(
     requires range { length out.old ≤ marks_room }
     ensures book { S.book source.new ≡ S.book source.old }
     ensures cases { MatchResult result (λ _. expanded_public qb (length out.old) (S.book source.old public_label seed.now) ≡ Ok out.new) (λ e. expanded_public qb (length out.old) (S.book source.old public_label seed.now) ≡ Err e) }
-    ensures facts { MatchResult result (λ _. Reduced qb (length out.old) out.new) (λ e. Shortfall Label.Public (length out.old) (S.book source.old public_label seed.now) e) }
+    ensures facts { MatchResult result (λ _. Reduced qb (length out.old) out.new) (λ e. Shortfall public_label (length out.old) (S.book source.old public_label seed.now) e) }
 {
     source.start(Label::Public as u8, seed);
     for (index, coefficient) in out.iter_mut().enumerate() {
@@ -150,7 +151,7 @@ pub fn expand_secret<S: Source>(
     requires room { length positions.old ≤ n }
     ensures book { S.book source.new ≡ S.book source.old }
     ensures cases { MatchResult result (λ _. expanded_secret n (length positions.old) (S.book source.old secret_label seed.now) ≡ Ok positions.new) (λ e. expanded_secret n (length positions.old) (S.book source.old secret_label seed.now) ≡ Err e) }
-    ensures facts { MatchResult result (λ _. Picked n (length positions.old) positions.new) (λ e. Shortfall Label.Secret (length positions.old) (S.book source.old secret_label seed.now) e) }
+    ensures facts { MatchResult result (λ _. Picked n (length positions.old) positions.new) (λ e. Shortfall secret_label (length positions.old) (S.book source.old secret_label seed.now) e) }
 {
     source.start(Label::Secret as u8, seed);
     let mut chosen = Chosen::none(positions);
@@ -188,7 +189,7 @@ mod tests {
         let mut positions = [0u16; 2];
         let fault = SamplerFault {
             source: SourceFault::Short,
-            label: Label::Secret,
+            label: 2,
             entry: 1,
             bytes: 6,
         };

@@ -3,10 +3,9 @@ use Rattle.std.proofs.Common.{◌≡◌, ℕ, ◌+◌, ◌*◌, ◌^◌, ◌<◌
 use Rattle.std.proofs.lemmas.List.{length-take-le, take_all}
 use Rattle.std.proofs.lemmas.Result.{err_from_is_err_and}
 use Rattle.source.specs.declared.SourceFault.TheVariants.{Short}
-use Rattle.sampler.specs.declared.Label.TheVariants.{Secret}
 use Rattle.sampler.specs.Values.{values}
 use Rattle.sampler.specs.Positions.{kept_from}
-use Rattle.sampler.specs.Expanded.{expanded_secret}
+use Rattle.sampler.specs.Expanded.{secret_label, expanded_secret}
 use Rattle.sampler.proofs.Drawn.{values_span}
 use Rattle.sampler.proofs.First.{first_made, first_short}
 use Rattle.sampler.proofs.Laws.{secret_picked, secret_shortfall}
@@ -14,12 +13,12 @@ use Rattle.sampler.proofs.Table.{kept_from_front}
 use Rattle.sampler.proofs.expand_secret.Goals as goal
 
 -- No value is left before h positions are kept.
-lacks : (n h count bytes : ℕ) (list out vs : List ℕ) → length out ≡ h → count < h → kept_from n (take count out) vs ≡ kept_from n [] (values list) → bytes + 2 * length vs ≡ 2 * length (values list) → vs ≡ [] → expanded_secret n h list ≡ Err (record { source = Short; label = Secret; entry = count; bytes = bytes })
+lacks : (n h count bytes : ℕ) (list out vs : List ℕ) → length out ≡ h → count < h → kept_from n (take count out) vs ≡ kept_from n [] (values list) → bytes + 2 * length vs ≡ 2 * length (values list) → vs ≡ [] → expanded_secret n h list ≡ Err (record { source = Short; label = secret_label; entry = count; bytes = bytes })
 unfolding expanded_secret
 lacks n h count bytes list out vs r l inv drawn none =
     let entries : kept_from n [] (values list) ≡ take count out = sym inv ∙ ap (kept_from n (take count out)) none in
     let empty = ap length none in
-    first_short Secret h count bytes (kept_from n [] (values list)) (values list) (ap length entries ∙ length-take-le count out (omega arith)) (omega arith) l
+    first_short secret_label h count bytes (kept_from n [] (values list)) (values list) (ap length entries ∙ length-take-le count out (omega arith)) (omega arith) l
 
 -- All h positions are kept.
 made : (n h count : ℕ) (list out vs : List ℕ) → length out ≡ h → h ≤ count → kept_from n (take count out) vs ≡ kept_from n [] (values list) → expanded_secret n h list ≡ Ok out
@@ -27,7 +26,7 @@ unfolding expanded_secret
 made n h count list out vs r l inv =
     let f = kept_from_front n out vs in
     let entries : kept_from n [] (values list) ≡ kept_from n out vs = sym inv ∙ ap (λ x. kept_from n x vs) (take_all count out (omega arith)) in
-    first_made Secret h (kept_from n [] (values list)) (values list) out f.0 (entries ∙ f.1) r
+    first_made secret_label h (kept_from n [] (values list)) (values list) out f.0 (entries ∙ f.1) r
 
 pub overflow_add-bytes : goal.overflow_add-bytes
 overflow_add-bytes g c =
