@@ -11,6 +11,12 @@ use Rattle.params.proofs.Sums.{sum_none, sum_more, sum_same}
 use Rattle.code.specs.Words.{Bits, Agree, message_bit, payload, parity, check_bits, checks, code_word, check_offset, Checked}
 use Rattle.code.proofs.Sums.{sum_upto}
 
+pub start_none : (s : Shape) → check_start s 0 ≡ s.kappa
+start_none s = omega (arith, sum_none (check_length s))
+
+pub start_more : (s : Shape) (j : ℕ) → check_start s (j + 1) ≡ check_start s j + check_length s j
+start_more s j = omega (arith, sum_more j (check_length s))
+
 -- check j ends before the first n checks do
 pub check_within : (s : Shape) (j n : ℕ) → j < n → check_start s j + check_length s j ≤ check_start s n
 check_within s j n h = omega (arith, sum_more j (check_length s), sum_upto (j + 1) n (check_length s) (omega arith))

@@ -14,7 +14,10 @@ pub(crate) fn add_payload(code: &Code, payload: &[u8], checks: &mut [u8])
     requires bits { FirstBits (check_offset code.now.shape (2 * code.now.shape.f)) checks.old }
     ensures { PayloadAdded code.now.shape (2 * code.now.shape.f) payload.now checks.old checks.new }
 {
+    let mut from = 0;
+    // Kept: where a check begins goes along with its number, since adding up the lengths before each check takes time.
     for j in 0..2 * code.shape.f as usize {
-        Check::of(code, j).add_payload(payload, checks);
+        Check::of(code, j, from).add_payload(payload, checks);
+        from += code.shape.lengths[j] as usize;
     }
 }

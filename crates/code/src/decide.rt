@@ -12,39 +12,43 @@ use params::code::Code;
 use params::{MOST_KAPPA, MOST_N};
 
 // The longest word: it has at most n symbols.
-const LONGEST_WORD: usize = MOST_N as usize;
+pub(crate) const LONGEST_WORD: usize = MOST_N as usize;
 
 // The longest payload, in bits.
 const LONGEST_PAYLOAD: usize = MOST_KAPPA as usize;
 
-// A received word, compared: the payload as received, and for each check bit 1 if it differs from the one worked out, else 0.
+// A received word, compared: the payload as received, and for each check bit 1 if it differs from the one worked out, else 0. The room for
+// the check bits is lent, so that no word is copied.
 #[derive(Drop)]
 pub(crate) struct ComparedWord<'a> {
     code: &'a Code,
     payload: &'a [u8],
-    checks: [u8; LONGEST_WORD],
+    checks: &'a [u8],
     ghost whole: { length payload.now ≡ code.now.shape.kappa },
     ghost payload_bits: { FirstBits code.now.shape.kappa payload.now },
-    ghost room: { length checks ≡ most_n },
-    ghost check_bits: { FirstBits (check_offset code.now.shape (2 * code.now.shape.f)) checks },
+    ghost room: { length checks.now ≡ most_n },
+    ghost check_bits: { FirstBits (check_offset code.now.shape (2 * code.now.shape.f)) checks.now },
 }
 
 impl<'a> ComparedWord<'a> {
     // Compares a received word.
-    pub(crate) fn of(code: &'a Code, received: &'a [u8]) -> ComparedWord<'a>
+    pub(crate) fn of(
+        code: &'a Code,
+        received: &'a [u8],
+        room: &'a mut [u8; LONGEST_WORD],
+    ) -> ComparedWord<'a>
         requires long { length received.now ≡ code.now.mu }
         requires bits { Bits received.now }
         ensures code { result.code.now ≡ code.now }
-        ensures compared { Compared code.now.shape received.now result.payload.now result.checks }
+        ensures compared { Compared code.now.shape received.now result.payload.now result.checks.now }
     {
         let (payload, received_checks) = received.split_at(code.shape.kappa as usize);
-        let mut checks = [0; LONGEST_WORD];
-        checks[..received_checks.len()].copy_from_slice(received_checks);
-        add_payload(code, payload, &mut checks);
+        room[..received_checks.len()].copy_from_slice(received_checks);
+        add_payload(code, payload, room);
         ComparedWord {
             code,
             payload,
-            checks,
+            checks: room,
         }
     }
 
@@ -53,10 +57,13 @@ impl<'a> ComparedWord<'a> {
     fn add_votes(&self, counts: &mut [u8])
         requires whole { length counts.old ≡ self.now.code.now.shape.kappa }
         requires clear { (k : ℕ) → k < self.now.code.now.shape.kappa → slice_index counts.old k ≡ 0 }
-        ensures { Counted self.now.code.now.shape self.now.checks counts.new }
+        ensures { Counted self.now.code.now.shape self.now.checks.now counts.new }
     {
+        let mut from = 0;
+        // Kept: as in add_payload, where a check begins goes along with its number.
         for j in 0..2 * self.code.shape.f as usize {
-            Check::of(self.code, j).add_votes(&self.checks, counts);
+            Check::of(self.code, j, from).add_votes(self.checks, counts);
+            from += self.code.shape.lengths[j] as usize;
         }
     }
 
@@ -76,14 +83,14 @@ pub(crate) struct Votes<'a> {
     word: &'a ComparedWord<'a>,
     counts: [u8; LONGEST_PAYLOAD],
     ghost room: { length counts ≡ most_kappa },
-    ghost counted: { Counted word.now.code.now.shape word.now.checks counts },
+    ghost counted: { Counted word.now.code.now.shape word.now.checks.now counts },
 }
 
 impl<'a> Votes<'a> {
     // Byte i of the corrected message.
     pub(crate) fn corrected_byte(&self, i: usize) -> u8
         requires { 8 * i + 8 ≤ self.now.word.now.code.now.shape.kappa }
-        ensures { let word = self.now.word.now in result ≡ byte_of (decided_bit word.code.now.shape word.payload.now word.checks) i }
+        ensures { let word = self.now.word.now in result ≡ byte_of (decided_bit word.code.now.shape word.payload.now word.checks.now) i }
     {
         let bits = &self.word.payload[8 * i..8 * i + 8];
         let counts = &self.counts[8 * i..8 * i + 8];

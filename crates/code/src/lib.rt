@@ -12,7 +12,7 @@ mod decide;
 mod walk;
 
 use checks::add_payload;
-use decide::ComparedWord;
+use decide::{ComparedWord, LONGEST_WORD};
 
 // Writes the bits of a message, one symbol each.
 fn write_payload(message: &[u8], payload: &mut [u8])
@@ -46,7 +46,8 @@ pub fn correct(code: &Code, received: &[u8], message: &mut [u8])
     ensures value { message.new ≡ corrected_message code.now.shape received.now }
     ensures mends { Mends code.now.shape received.now message.new }
 {
-    let word = ComparedWord::of(code, received);
+    let mut room = [0; LONGEST_WORD];
+    let word = ComparedWord::of(code, received, &mut room);
     let votes = word.count_votes();
     for (i, byte) in message.iter_mut().enumerate() {
         *byte = votes.corrected_byte(i);

@@ -1,18 +1,9 @@
 // The checks of a code, and the places of the payload in them. A place is found from the place before it rather than by a division.
-ghost use Rattle.std.specs.Prelude.{◌≡◌, ℕ, ◌+◌, ◌*◌, ◌<◌, ◌≤◌, length, sum, slice_index};
+ghost use Rattle.std.specs.Prelude.{◌≡◌, ℕ, ◌+◌, ◌*◌, ◌<◌, ◌≤◌, length, slice_index};
 ghost use Rattle.params.specs.Checks.{check_length, in_blocks, place_of};
-ghost use Rattle.params.specs.Limits.{most_checks};
 ghost use Rattle.code.specs.Words.{Agree, FirstBits, check_offset, added};
 
 use params::code::Code;
-
-// How many bits checks of these lengths have.
-fn bits_of(lengths: &[u16]) -> usize
-    requires { length lengths.now ≤ most_checks }
-    ensures { result ≡ sum lengths.now }
-{
-    lengths.iter().map(|long| *long as usize).sum()
-}
 
 // A check of a code: its number, and where its bits begin among the check bits of a word.
 #[derive(Drop)]
@@ -25,13 +16,14 @@ pub(crate) struct Check<'a> {
 }
 
 impl<'a> Check<'a> {
-    // Check j of a code.
-    pub(crate) fn of(code: &'a Code, j: usize) -> Check<'a>
-        requires { j < 2 * code.now.shape.f }
+    // Check j of a code, which begins at place `from`. Those who go over the checks carry that place along.
+    pub(crate) fn of(code: &'a Code, j: usize, from: usize) -> Check<'a>
+        requires known { j < 2 * code.now.shape.f }
+        requires begins { from ≡ check_offset code.now.shape j }
         ensures code { result.code.now ≡ code.now }
         ensures number { result.j ≡ j }
+        ensures begins { result.from ≡ from }
     {
-        let from = bits_of(&code.shape.lengths[..j]);
         Check { code, j, from }
     }
 

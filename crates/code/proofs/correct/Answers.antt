@@ -14,5 +14,5 @@ returns c =
     let made = rw (c.count_votes-votes.ensures, c.of-word.ensures.code) at c.loop-i.invariant in
     let value : c.loop-i.message ≡ corrected_message s v = corrected_only s v c.loop-i.message (omega arith) (λ i h.
     made i (omega arith)
-    ∙ number_same 8 _ _ (λ q lt. decided s code.lengths code.mark v word.payload.now word.checks c.of-word.ensures.compared (8 * i + q) (omega arith))) in
+    ∙ number_same 8 _ _ (λ q lt. decided s code.lengths code.mark v word.payload.now word.checks.now c.of-word.ensures.compared (8 * i + q) (omega arith))) in
     record { value = value; mends = subst (λ (r : List ℕ). Mends s v r) (sym value) (mends code v c.requires.long c.requires.bits) }

@@ -6,4 +6,4 @@ use Rattle.code.proofs.correct.Given as goal
 abbrev pub invariant-loop-i : goal.invariant-loop-i
 invariant-loop-i l =
     let word = l.votes.word.now in
-    (n : ℕ) → n < l.i → get_or l.message n 0 ≡ byte_of (decided_bit word.code.now.shape word.payload.now word.checks) n
+    (n : ℕ) → n < l.i → get_or l.message n 0 ≡ byte_of (decided_bit word.code.now.shape word.payload.now word.checks.now) n
