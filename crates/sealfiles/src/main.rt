@@ -20,9 +20,9 @@ use crate::stop::Stop;
 use crate::texts::HELP;
 use kit::new_source;
 use source::{Source, Tape};
+use std::env;
 use std::process::ExitCode;
 use std::rt::Env;
-use std::{env, io};
 
 // The commands that expand seeds, with the source that they draw from.
 fn expand<'a, S: Source + Drop>(
@@ -101,7 +101,7 @@ fn obey<'a>(rt: &HostRuntime, command: &str, words: &[&'a str]) -> Result<(), St
 }
 
 // The words of the command line after the program's own.
-fn read_words(rt: &HostRuntime) -> io::Result<Vec<String>> {
+fn read_words(rt: &HostRuntime) -> Result<Vec<String>, Stop<'static>> {
     Ok(env::args(rt)?.skip(1).collect(rt.alloc())?)
 }
 
@@ -125,6 +125,6 @@ fn main(rt: HostRuntime) -> ExitCode {
             Ok(()) => ExitCode::SUCCESS,
             Err(stop) => fail(&rt, stop),
         },
-        Err(e) => fail(&rt, Stop::Io(e)),
+        Err(stop) => fail(&rt, stop),
     }
 }

@@ -5,7 +5,7 @@ ghost use Rattle.std.specs.Prelude.{◌≡◌, length};
 ghost use Rattle.shake.specs.Shake.{shake256};
 
 use anyhow::anyhow;
-use hex::decode;
+use hex::decode_to_slice;
 use shake::{Absorbing, hash};
 use std::alloc::Global;
 use std::fs;
@@ -34,6 +34,27 @@ fn agrees(heap: Global, message: &[u8], output: &[u8]) -> anyhow::Result<bool> {
     Ok(out.as_slice() == output)
 }
 
+// Refuses what is no pairs of digits as the vectors write them. (`decode_to_slice` takes capitals too.)
+fn check_digits(digits: &[u8]) -> anyhow::Result<()> {
+    let (pairs, rest) = digits.as_chunks::<2>();
+    let mut digits = pairs.as_flattened().iter();
+    if !digits.all(|c| matches!(c, b'0'..=b'9' | b'a'..=b'f')) {
+        return Err(anyhow!("not a hexadecimal digit"));
+    }
+    if !rest.is_empty() {
+        return Err(anyhow!("an odd number of digits"));
+    }
+    Ok(())
+}
+
+// The bytes that pairs of digits write.
+fn bytes(heap: Global, digits: &str) -> anyhow::Result<Vec<u8>> {
+    check_digits(digits.as_bytes())?;
+    let mut bytes = vec![in heap; 0u8; digits.len() / 2]?;
+    decode_to_slice(digits, bytes.as_mut_slice())?;
+    Ok(bytes)
+}
+
 // Runs each vector of the file, writes a line for each, and then the counts.
 fn run(rt: &HostRuntime) -> anyhow::Result<()> {
     let heap = rt.alloc();
@@ -43,9 +64,9 @@ fn run(rt: &HostRuntime) -> anyhow::Result<()> {
     let mut failed = 0u64;
     for line in text.lines() {
         if let Some(digits) = line.strip_prefix("message = ") {
-            message = decode(heap, digits)?;
+            message = bytes(heap, digits)?;
         } else if let Some(digits) = line.strip_prefix("output = ") {
-            let output = decode(heap, digits)?;
+            let output = bytes(heap, digits)?;
             let taken = message.len();
             let given = output.len();
             if agrees(heap, message.as_slice(), output.as_slice())? {
