@@ -1,9 +1,12 @@
 -- Comparing and choosing bytes without a branch.
-use Rattle.std.proofs.Common.{◌≡◌, ℕ, ◌<◌, Bool, true, false, cond, ◌&&◌, eqb, List, [], ◌∷◌, length, get_or, sym, refl, ap, ◌∙◌, inl, inr, mod-eq_of_lt, arith}
+use Rattle.std.proofs.Common.{◌≡◌, ℕ, ◌+◌, ◌*◌, ◌<◌, ◌≤◌, Bool, true, false, cond, ◌&&◌, eqb, List, [], ◌∷◌, length, get_or, sym, refl, ap, ◌∙◌, inl, inr, mod-eq_of_lt, arith}
 use lib.Bits.{bit_and, bit_or, bit_xor, and_zero_l, and_comm, and_mask, and_le_r, or_zero_l, xor_zero_l, xor_zero_r, xor_self, xor_assoc, xor_lt, or_add_and}
 use Rattle.std.specs.List.{fold, zip}
 use Rattle.std.proofs.lemmas.List.{ext_get_or}
 use Rattle.std.proofs.lemmas.Bool.{cases_eq, eq-eqb, ne_eqb}
+use Rattle.std.proofs.lemmas.Nat.{mul-le}
+use Rattle.params.specs.Limits.{most_n}
+use Rattle.params.specs.Sizes.{bytes_for}
 use Rattle.rack.specs.Calls.{same}
 
 -- exclusive or is 0 exactly of equals
@@ -53,3 +56,10 @@ pub chosen_all : (t : Bool) (out xs ys : List ℕ) → length out ≡ length xs 
     → ((k : ℕ) → k < length out → get_or out k 0 ≡ cond t (get_or xs k 0) (get_or ys k 0)) → out ≡ cond t xs ys
 chosen_all true out xs ys ex ey each = ext_get_or 0 out xs ex each
 chosen_all false out xs ys ex ey each = ext_get_or 0 out ys ey each
+
+-- the bytes of n fields of w bits, and of those with m fields of v bits, fit the rooms that open has for a key and a parcel
+pub key_room : (n w : ℕ) → n ≤ most_n → w ≤ 15 → 33 + bytes_for (n * w) ≤ 2283
+key_room n w hn hw = omega (arith, mul-le n w most_n 15 hn hw)
+
+pub parcel_room : (n w m v : ℕ) → n ≤ most_n → w ≤ 15 → m ≤ most_n → v ≤ 14 → 33 + bytes_for (n * w + m * v) ≤ 4383
+parcel_room n w m v hn hw hm hv = omega (arith, mul-le n w most_n 15 hn hw, mul-le m v most_n 14 hm hv)

@@ -1,6 +1,6 @@
 -- Shifts, masks and words that wrap are the quotients and remainders of the definitions.
 use Rattle.std.proofs.Common.{◌≡◌, ℕ, ◌+◌, ◌-◌, ◌*◌, ◌/◌, ◌%◌, ◌^◌, ◌<◌, ◌≤◌, cond, ltb, leb, ℤ, pos, negsuc, ◌+ℤ◌, ◌-ℤ◌, nat_abs, sym, refl, ap, ◌∙◌, subst, ap₂, mod-lt, mul_comm, arith, pow_pos, pow_mono, w32, SFits, to_z, of_z}
-use native.Mathlib.Nat.{mod-add-mod, add-mod-mod, div-eq_of_lt}
+use native.Mathlib.Nat.{mod-add-mod, add-mod-mod, div-eq_of_lt, div-lt_iff_lt-mul}
 use lib.Bits.{bit_and}
 use lib.Signed.{lt_z}
 use borrow.Author.Differences.{ints}
@@ -41,6 +41,12 @@ symbol_is M x bit =
 -- the highest bit
 top_bit : (y half : ℕ) → 0 < half → y < 2 * half → y / half ≡ cond (leb half y) 1 0
 top_bit y half some lt = grind (arith, common_steps, div-eq_of_lt, div-mul-add)
+
+-- the highest of b low bits, whatever the number
+pub top_low : (n b mask : ℕ) → 1 ≤ b → mask ≡ 2 ^ b - 1 → bit_and n mask / 2 ^ (b - 1) < 2
+top_low n b mask le em =
+    let is : bit_and n mask ≡ n % 2 ^ b = ap (bit_and n) em ∙ and_mask n b in
+    (div-lt_iff_lt-mul {x = bit_and n mask} {y = 2} (pow_pos (b - 1))).1 (omega (arith, is, mod-lt n (pow_pos b), twice_pow b le))
 
 -- what is congruent modulo 2^w is so modulo a lower power
 cong_low : (w b : ℕ) {x y : ℤ} → b ≤ w → Congruent (2 ^ w) x y → Congruent (2 ^ b) x y

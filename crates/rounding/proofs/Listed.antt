@@ -34,9 +34,17 @@ pub get_d_rounded_product : (M : Moduli) (n : ℕ) (a s : List ℕ) (i : ℕ) �
 unfolding rounded_product
 get_d_rounded_product M = get_d_residues M (rounded M) 0 (rounded_zero M)
 
+pub length_slips : (M : Moduli) (n : ℕ) (a s : List ℕ) → length (slips M n a s) ≡ n
+unfolding slips
+length_slips M n a s = length_listed n _
+
 pub get_d_slips : (M : Moduli) (n : ℕ) (a s : List ℕ) (i : ℕ) → get_or (slips M n a s) i (pos 0) ≡ slip M (residue M n a s i)
 unfolding slips
 get_d_slips M = get_d_residues M (slip M) (pos 0) (slip_zero M)
+
+pub length_cross_product : (M : Moduli) (n : ℕ) (b r : List ℕ) → length (cross_product M n b r) ≡ n + 1
+unfolding cross_product
+length_cross_product M n b r = length_listed (n + 1) _
 
 pub get_d_cross_product : (M : Moduli) (n : ℕ) (b r : List ℕ) (i d : ℕ) → i ≤ n → get_or (cross_product M n b r) i d ≡ mod_z (p M) (cyclic (n + 1) (whole b) r i)
 unfolding cross_product

@@ -1,13 +1,13 @@
 -- The scanning functions in the library's words, over plain lists.
-use Rattle.std.proofs.Common.{◌≡◌, ℕ, suc, ◌+◌, ◌-◌, ◌≤◌, Bool, true, false, not, cond, eqb, ltb, List, [], ◌∷◌, ◌++◌, length, take, drop, Some, None, Option, sym, refl, ap, ◌∙◌, arith, Bor, add-one, eq-eqb}
-use Rattle.std.specs.List.{position, position_or_len, before_first, after_first}
+use Rattle.std.proofs.Common.{◌≡◌, ℕ, suc, ◌+◌, ◌-◌, ◌≤◌, Bool, true, false, not, cond, eqb, ltb, List, [], ◌∷◌, ◌++◌, length, take, drop, Some, None, Option, sym, refl, ap, ◌∙◌, ap₂, arith, Bor, add-one, eq-eqb}
+use Rattle.std.specs.List.{position, position_or_len, before_first, after_first, onto_first}
 use Rattle.std.specs.Option.{unwrap_or, MatchOption}
 use Rattle.std.proofs.lemmas.Grind.{common_steps}
 use Rattle.std.proofs.lemmas.Bool.{le-ltb, lt-ltb, ltb-true, ltb-false, eqb-true}
 use Rattle.std.proofs.lemmas.List.{take_all}
 use Rattle.std.proofs.lemmas.List.Sums.{prefix_len-le-length}
 use Rattle.std.proofs.lemmas.Slice.{between_to_end}
-use Rattle.setfile.specs.Scan.{space, skipped, before, after, stripped, blank, only_blank}
+use Rattle.setfile.specs.Scan.{space, skipped, before, after, parts, stripped, blank, only_blank}
 
 -- the bytes from the first that is no space
 skipped_step : (x : ℕ) (xs : List ℕ) (t : Bool) → drop (position_or_len (λ y. not (space y)) xs) xs ≡ skipped xs → drop (cond (not (not t)) (1 + position_or_len (λ y. not (space y)) xs) 0) (x ∷ xs) ≡ cond t (skipped xs) (x ∷ xs)
@@ -88,3 +88,21 @@ stripped_none (p ∷ ps) (x ∷ xs) h = stripped_none_step p x ps xs (eqb x p) (
 pub word_is : (ps xs : List ℕ) (r : Option (Bor (List ℕ))) (b : Bool) → MatchOption r ((rest : List ℕ) → xs ≡ ps ++ rest → ⊥) (λ x. xs ≡ ps ++ x.now) → MatchOption r (b ≡ false) (λ x. b ≡ blank x.now) → b ≡ only_blank (stripped ps xs)
 word_is ps xs None b e h = h ∙ sym (ap only_blank (stripped_none ps xs e))
 word_is ps xs (Some x) b e h = h ∙ sym (ap (λ l. only_blank (stripped ps l)) e ∙ ap only_blank (stripped_is ps x.now))
+
+-- the parts are what stands before the first mark, and the parts of what follows it
+module _ (c : ℕ) where
+  abbrev pub parts_after : Option (List ℕ) → List (List ℕ)
+  parts_after None = []
+  parts_after (Some xs) = parts c xs
+
+  cut_by : (x : ℕ) (xs : List ℕ) (t : Bool) → parts c xs ≡ before c xs ∷ parts_after (after c xs) → cond t ([] ∷ parts c xs) (onto_first x (parts c xs)) ≡ cond t [] (x ∷ before c xs) ∷ parts_after (cond t (Some xs) (after c xs))
+  cut_by x xs true ih = refl
+  cut_by x xs false ih = ap (onto_first x) ih
+
+  pub parts_cut : (xs : List ℕ) → parts c xs ≡ before c xs ∷ parts_after (after c xs)
+  parts_cut [] = refl
+  parts_cut (x ∷ xs) = cut_by x xs (eqb x c) (parts_cut xs)
+
+  -- going over the parts takes the first and goes on with what follows the mark
+  pub next_part : (rest front : List ℕ) (o : Option (List ℕ)) → front ≡ before c rest → after c rest ≡ o → parts c rest ≡ front ∷ parts_after o
+  next_part rest front o first more = parts_cut rest ∙ ap₂ (λ (l : List ℕ) (p : Option (List ℕ)). l ∷ parts_after p) (sym first) more

@@ -3,14 +3,10 @@ use Rattle.std.specs.Fmt.{digits, decimal}
 use Rattle.params.specs.Rules.{rule_number}
 use Rattle.words.proofs.ToldSetFaultDisplay.fmt.Goals as goal
 
--- the numbers of the two refusals, as they are written
+-- the number of the first refusal, as it is written
 eleven : decimal 11 ≡ codes "11"
 unfolding digits
 eleven = refl
-
-twelve : decimal 12 ≡ codes "12"
-unfolding digits
-twelve = refl
 
 pub returns-in-Broken-clause-writes : goal.returns-in-Broken-clause-writes
 returns-in-Broken-clause-writes g c =
@@ -18,8 +14,10 @@ returns-in-Broken-clause-writes g c =
     let w = rw (n, eleven, c.rule_sentence.ensures) at c.write.ensures.writes in
     rw c.in-Broken.is w
 
+-- the number is worked out, so that what is written may be the number or its digits
 pub returns-in-Shared-clause-writes : goal.returns-in-Shared-clause-writes
+unfolding digits
 returns-in-Shared-clause-writes g c =
     let n : c.numbers.result ≡ 12 ∷ c.in-Shared.field-0 ∷ c.in-Shared.field-1 ∷ [] = c.numbers.ensures ∙ rw c.in-Shared.is in
-    let w = rw (n, twelve) at c.write-in-Shared.ensures.writes in
+    let w = rw n at c.write-in-Shared.ensures.writes in
     rw c.in-Shared.is w
