@@ -49,8 +49,8 @@ fn check_digits(digits: &[u8]) -> anyhow::Result<()> {
 
 // The bytes that pairs of digits write.
 fn bytes(heap: Global, digits: &str) -> anyhow::Result<Vec<u8>> {
-    check_digits(digits.as_bytes())?;
     let mut bytes = vec![in heap; 0u8; digits.len() / 2]?;
+    check_digits(digits.as_bytes())?;
     decode_to_slice(digits, bytes.as_mut_slice())?;
     Ok(bytes)
 }
