@@ -4,7 +4,7 @@
 ghost use Rattle.std.specs.Prelude.{◌≡◌, length};
 ghost use Rattle.ring.specs.Cyclic.{Within};
 
-use ring::{Coefficient, multiply_residues};
+use ring::{Coefficient, multiply_operands};
 use std::io;
 
 const N: usize = 1018;
@@ -45,7 +45,7 @@ fn products(poly: &mut [Coefficient; N], secret: &[u16; H], out: &mut [u16; LONG
 {
     let mut sum = 0u32;
     for i in 0..ROUNDS {
-        multiply_residues(poly, secret, out);
+        multiply_operands(poly, secret, out);
         let x = out[i % LONG];
         poly[i % N] = Coefficient(poly[i % N].0.wrapping_add(x));
         sum = sum.wrapping_mul(31).wrapping_add(x as u32);

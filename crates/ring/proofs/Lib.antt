@@ -1,5 +1,6 @@
 pub mod Listing
 pub mod Algebra
+pub mod Rows
 pub mod Runs
 pub mod Turns
 pub mod Congruences

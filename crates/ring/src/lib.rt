@@ -6,6 +6,7 @@ mod laws;
 mod residues;
 mod sorts;
 mod sparse;
+mod terms;
 mod whole;
 
 pub use groups::Group;
@@ -13,4 +14,4 @@ pub use laws::ring_laws;
 pub use residues::{Operand, Residue, Wrapping};
 pub use sorts::{Coefficient, Rounded, Sort, Symbol};
 pub use sparse::multiply;
-pub use whole::{multiply_residues, multiply_signed};
+pub use whole::{multiply_operands, multiply_residues, multiply_signed};

@@ -1,4 +1,4 @@
-// Residues: what is a word of 16 bits, by itself or as a sort of its own; those whose sums wrap, and those that the product takes.
+// Residues: what is a word of 16 bits, by itself or as a sort of its own; those whose sums wrap, and those that `multiply` takes.
 ghost use Rattle.std.specs.Prelude.{◌≡◌, ℕ};
 ghost use Rattle.std.proofs.Common.{rules};
 
@@ -22,7 +22,7 @@ pub trait Residue: Copy {
 // A residue whose sums wrap as a word's do. A sort with sums of its own is no such residue, and says itself which group it forms.
 pub trait Wrapping: Residue {}
 
-// A residue that the product takes. Symbols are none, nor are plain words: no sort is taken for another.
+// A residue that `multiply` and the kit's products take. Symbols are none, nor are plain words: no sort is taken for another.
 pub trait Operand: Residue {}
 
 impl Wrapping for u16 {}

@@ -6,7 +6,7 @@ ghost use Rattle.rounding.specs.Symbols.{rounded_product, slips, cross_product, 
 
 use crate::lists::{noise, raw_bits, round_product, slips, symbols};
 use params::moduli::Moduli;
-use ring::{Coefficient, Operand, Rounded, Symbol, multiply_residues};
+use ring::{Coefficient, Operand, Rounded, Symbol, multiply_operands};
 
 // The lent product area: n + 1 words that hold the cyclic product of these n coefficients and this secret, modulo 2^16. Its methods need no premise on the
 // words, as the functions over any words do.
@@ -27,7 +27,7 @@ impl<'a, R: Operand> Product<'a, R> {
         ensures poly { result.poly.now ≡ poly.now }
         ensures secret { result.secret.now ≡ secret.now }
     {
-        multiply_residues(poly, secret, area);
+        multiply_operands(poly, secret, area);
         Product {
             poly,
             secret,
